@@ -1,0 +1,6 @@
+-- Laws of readers: what every tree obeys, and what the layers above cite.
+pub mod Prefix
+pub mod Bits
+pub mod Running
+pub mod Prefixes
+pub mod Holding

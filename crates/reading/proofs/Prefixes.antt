@@ -1,0 +1,119 @@
+-- The prefix rules on bytes, from a place: what was got or refused stays so whatever follows; the bytes up to the place behind suffice; fewer are short.
+use Prim.Native.Nat.{ℕ, zero, suc, _+_, _*_, _-_, _≤_, _<_}
+use native.Mathlib.Nat.{zero-add, le-refl}
+use native.Mathlib.Omega.{arith}
+use mathlib.Core.Path.{_≡_, refl, ap, ap₂, sym, _∙_, subst}
+use mathlib.Core.Bool.{Bool, true, false, cond}
+use mathlib.Core.List.{List, [], _∷_, _++_, append-assoc}
+use lib.ListN.{length, take, drop, length-take, length-append}
+use lib.Seq.{take-append-add}
+use Rattle.reading.specs.declared.Place.{Place}
+use Rattle.reading.specs.Reading.{Ask, seen, Got, got, refused, short, run}
+use Rattle.reading.specs.Bytes.{bitsOfByte, bitsOfBytes}
+use Rattle.reading.specs.Places.{position, placeOf, inside, At, gotAt, refusedAt, shortAt, toAt, runAt}
+use Rattle.reading.proofs.Prefix.{Ends, settled, extended, kept, cut-short}
+use Rattle.reading.proofs.Bits.{length-bits}
+use Rattle.reading.proofs.Running.{In, inside-in, runAt-in, runAt-out, place-position, position-place}
+
+pub bits-append : (s t : List ℕ) → bitsOfBytes (s ++ t) ≡ bitsOfBytes s ++ bitsOfBytes t
+unfolding bitsOfBytes
+bits-append [] t = refl
+bits-append (b ∷ s) t = ap (λ (l : List ℕ). bitsOfByte b ++ l) (bits-append s t) ∙ sym (append-assoc (bitsOfByte b) (bitsOfBytes s) (bitsOfBytes t))
+
+eight : (b m : ℕ) (t : List ℕ) → take (8 + m) (bitsOfByte b ++ t) ≡ bitsOfByte b ++ take m t
+unfolding bitsOfByte
+eight b m t = take-append-add (bitsOfByte b) t m
+
+pub bits-take : (m : ℕ) (s : List ℕ) → bitsOfBytes (take m s) ≡ take (8 * m) (bitsOfBytes s)
+unfolding bitsOfBytes
+bits-take zero s = refl
+bits-take (suc m) [] = sym (lib.Seq.take-nil (8 * suc m))
+bits-take (suc m) (b ∷ s) =
+    ap (λ (l : List ℕ). bitsOfByte b ++ l) (bits-take m s) ∙ sym (eight b (8 * m) (bitsOfBytes s))
+    ∙ ap (λ n. take n (bitsOfByte b ++ bitsOfBytes s)) (let e : 8 + 8 * m ≡ 8 * suc m = omega arith in e)
+
+-- what was seen at a place: as many bits as its position
+pub seen-at : {A : Type 0} (k : List ℕ → Ask A) (s : List ℕ) (at : Place) → In s at → runAt (seen k) s at ≡ runAt (k (take (position at) (bitsOfBytes s))) s at
+unfolding run
+seen-at k s at h = runAt-in (seen k) h ∙ sym (runAt-in (k (take (position at) (bitsOfBytes s))) h)
+
+pub seen-length : (s : List ℕ) (at : Place) → In s at → length (take (position at) (bitsOfBytes s)) ≡ position at
+seen-length s at h = lib.Seq.length-take-le (position at) (bitsOfBytes s) (omega (arith, length-bits s, h .end))
+
+-- at the start of a byte, what was seen is the bits of the bytes before it
+pub seen-bytes : {A : Type 0} (k : List ℕ → Ask A) (s : List ℕ) (at : Place) → at .bit ≡ 0 → In s at
+    → runAt (seen k) s at ≡ runAt (k (bitsOfBytes (take (at .byte) s))) s at
+unfolding run
+seen-bytes k s at e h =
+    runAt-in (seen k) h ∙ ap (λ l. toAt (run (k l) (bitsOfBytes s) (position at))) past ∙ sym (runAt-in (k (bitsOfBytes (take (at .byte) s))) h)
+  where
+    past : take (position at) (bitsOfBytes s) ≡ bitsOfBytes (take (at .byte) s)
+    past = ap (λ n. take n (bitsOfBytes s)) (let f : 8 * at .byte + at .bit ≡ 8 * at .byte = omega arith in f) ∙ sym (bits-take (at .byte) s)
+
+-- what the runs on the bits say of those on the bytes
+ended : {A : Type 0} (p : Ask A) (s : List ℕ) (at : Place) → (runAt p s at ≡ shortAt → ⊥)
+    → In s at × ((j : ℕ) × Ends (run p (bitsOfBytes s) (position at)) j)
+unfolding runAt toAt
+ended {A} p s at h = go (inside s at) refl (run p (bitsOfBytes s) (position at)) refl h
+  where
+    go : (b : Bool) → inside s at ≡ b → (x : Got A) → run p (bitsOfBytes s) (position at) ≡ x → (cond b (toAt x) shortAt ≡ shortAt → ⊥)
+        → In s at × ((j : ℕ) × Ends (run p (bitsOfBytes s) (position at)) j)
+    go true t (got a j) e f = (inside-in s at t, (j, subst (λ y. Ends y j) (sym e) refl))
+    go true t (refused n j) e f = (inside-in s at t, (j, subst (λ y. Ends y j) (sym e) refl))
+    go true t short e f = absurd (f refl)
+    go false t x e f = absurd (f refl)
+
+module _ {A : Type 0} (p : Ask A) (s : List ℕ) (at : Place) where
+  -- (a), (c)
+  pub at-extended : (t : List ℕ) → (runAt p s at ≡ shortAt → ⊥) → runAt p (s ++ t) at ≡ runAt p s at
+  at-extended t h =
+      let e = ended p s at h in
+      let i : In (s ++ t) at = record { bit = e .0 .bit; end = omega (arith, length-append s t, e .0 .end) } in
+      runAt-in p i ∙ ap (λ l. toAt (run p l (position at))) (bits-append s t)
+      ∙ ap toAt (extended p (bitsOfBytes s) (position at) (omega (arith, length-bits s, e .0 .end)) (e .1 .0) (bitsOfBytes t) (e .1 .1))
+      ∙ sym (runAt-in p (e .0))
+
+  module _ (a : A) (at′ : Place) (g : runAt p s at ≡ gotAt a at′) where
+    got-run : In s at × (run p (bitsOfBytes s) (position at) ≡ got a (position at′))
+    unfolding runAt toAt
+    got-run = go (inside s at) refl (run p (bitsOfBytes s) (position at)) refl g
+      where
+        go : (b : Bool) → inside s at ≡ b → (x : Got A) → run p (bitsOfBytes s) (position at) ≡ x → cond b (toAt x) shortAt ≡ gotAt a at′
+            → In s at × (run p (bitsOfBytes s) (position at) ≡ got a (position at′))
+        go true t (got c j) e f =
+            let q : placeOf j ≡ at′ = cc in
+            let r : j ≡ position at′ = sym (place-position j) ∙ ap position q in
+            (inside-in s at t, (let d : c ≡ a = cc in cc))
+        go true t (refused n j) e f = absurd (let z : _≡_ {A = ℕ} 0 1 = cc in omega arith)
+        go true t short e f = absurd (let z : _≡_ {A = ℕ} 0 1 = cc in omega arith)
+        go false t x e f = absurd (let z : _≡_ {A = ℕ} 0 1 = cc in omega arith)
+
+    within : position at ≤ length (bitsOfBytes s)
+    within = omega (arith, length-bits s, got-run .0 .end)
+
+    ends : Ends (run p (bitsOfBytes s) (position at)) (position at′)
+    ends = subst (λ y. Ends y (position at′)) (sym (got-run .1)) refl
+
+    -- (b): the place behind is at or behind the start, and no further than the input's end
+    pub at-forward : (position at ≤ position at′) × (position at′ ≤ 8 * length s)
+    at-forward = let q = settled p (bitsOfBytes s) (position at) within ends in (q .0, omega (arith, length-bits s, q .1))
+
+    cut-to : (m : ℕ) → In (take m s) at → runAt p (take m s) at ≡ toAt (run p (take (8 * m) (bitsOfBytes s)) (position at))
+    cut-to m i = runAt-in p i ∙ ap (λ l. toAt (run p l (position at))) (bits-take m s)
+
+    -- (b): the bytes up to there suffice
+    pub at-kept : (m : ℕ) → position at′ ≤ 8 * m → runAt p (take m s) at ≡ gotAt a at′
+    at-kept m l =
+        cut-to m (record { bit = got-run .0 .bit; end = omega (arith, length-take m s, got-run .0 .end, at-forward .0) })
+        ∙ ap toAt (kept p (bitsOfBytes s) (position at) within (position at′) (8 * m) l ends) ∙ sym (runAt-in p (got-run .0)) ∙ g
+
+    -- (b): and fewer are short
+    pub at-cut : (m : ℕ) → 8 * m < position at′ → runAt p (take m s) at ≡ shortAt
+    unfolding toAt
+    at-cut m l = go (inside (take m s) at) refl
+      where
+        go : (b : Bool) → inside (take m s) at ≡ b → runAt p (take m s) at ≡ shortAt
+        go true t =
+            let i = inside-in (take m s) at t in
+            cut-to m i ∙ ap toAt (cut-short p (bitsOfBytes s) (position at) (8 * m) (position at′) within (omega (arith, length-take m s, i .end)) l ends)
+        go false t = runAt-out p (take m s) at t

@@ -1,0 +1,271 @@
+-- Laws of runs on bytes, from a place: where a run may start and end, one reader behind another, the same reader many
+-- times, a reader for each of some things. The functions that read cite these and never the text of `run`.
+-- Assumes nothing.
+use Prim.Native.Nat.{ℕ, zero, suc, _+_, _*_, _-_, _/_, _%_, _^_, _≤_, _<_}
+use native.Mathlib.Omega.{arith}
+use mathlib.Core.Path.{_≡_, refl, ap, ap₂, sym, _∙_, subst}
+use mathlib.Core.Bool.{Bool, true, false, _&&_, cond}
+use mathlib.Core.List.{List, [], _∷_, _++_, append-assoc, append-nil}
+use borrow.Author.Tests.{ltb-true, leb-true, lt-ltb, le-leb, le-ltb, lt-leb}
+use lib.Dec.{leb, ltb}
+use lib.ListN.{length, take}
+use Rattle.reading.specs.declared.Place.{Place}
+use Rattle.reading.specs.Reading.{Question, nextBits, nextZeros, Ask, done, stop, ask, seen, _>>=_, bits, zeros, passed, require, many, each, Answer, found, cut, answer, Got, got, refused, short, follow, run}
+use Rattle.reading.specs.Bytes.{bitsOfBytes}
+use Rattle.reading.specs.Places.{position, placeOf, inside, At, gotAt, refusedAt, shortAt, toAt, runAt, andThen}
+use Rattle.reading.proofs.Prefix.{settled, Ends}
+use Rattle.reading.proofs.Bits.{length-bits, bitsAt, bits-bound, bits-moved}
+
+-- ---- places
+
+pub record In (s : List ℕ) (p : Place) : Type 0 where
+  pub bit : p .bit < 8
+  pub end : position p ≤ 8 * length s
+
+and-fst : (a b : Bool) → (a && b) ≡ true → a ≡ true
+and-fst true b e = refl
+and-fst false b e = e
+
+and-snd : (a b : Bool) → (a && b) ≡ true → b ≡ true
+and-snd true b e = e
+and-snd false true e = refl
+and-snd false false e = e
+
+pub inside-in : (s : List ℕ) (p : Place) → inside s p ≡ true → In s p
+unfolding inside
+inside-in s p e = record { bit = ltb-true _ _ (and-fst _ _ e); end = leb-true _ _ (and-snd (ltb (p .bit) 8) _ e) }
+
+pub in-inside : (s : List ℕ) (p : Place) → In s p → inside s p ≡ true
+unfolding inside
+in-inside s p h = rw (lt-ltb _ _ (h .bit)) (le-leb _ _ (h .end))
+
+pub outside-bit : (s : List ℕ) (p : Place) → 8 ≤ p .bit → inside s p ≡ false
+unfolding inside
+outside-bit s p h = rw (le-ltb _ _ h)
+
+pub outside-end : (s : List ℕ) (p : Place) → p .bit < 8 → 8 * length s < position p → inside s p ≡ false
+unfolding inside
+outside-end s p b h = rw (lt-ltb _ _ b) (lt-leb _ _ h)
+
+-- a place that a function made
+pub place-is : (byte bit i : ℕ) → bit < 8 → 8 * byte + bit ≡ i → _≡_ {A = Place} (record { byte = byte; bit = bit }) (placeOf i)
+place-is byte bit i h e = ap₂ (λ (x y : ℕ). record { byte = x; bit = y }) (omega arith) (omega arith)
+
+pub place-position : (j : ℕ) → position (placeOf j) ≡ j
+place-position j = omega arith
+
+pub position-place : (p : Place) → p .bit < 8 → placeOf (position p) ≡ p
+position-place p h = sym (place-is (p .byte) (p .bit) (position p) h refl)
+
+-- the start of an input is a place of it
+pub start-in : (s : List ℕ) → In s (placeOf 0)
+start-in s = record { bit = omega arith; end = omega arith }
+
+-- ---- a run by itself
+
+pub runAt-in : {A : Type 0} (p : Ask A) {s : List ℕ} {at : Place} → In s at → runAt p s at ≡ toAt (run p (bitsOfBytes s) (position at))
+unfolding runAt
+runAt-in p {s} {at} h = rw (in-inside s at h)
+
+pub runAt-out : {A : Type 0} (p : Ask A) (s : List ℕ) (at : Place) → inside s at ≡ false → runAt p s at ≡ shortAt
+unfolding runAt
+runAt-out p s at e = rw e
+
+pub runAt-done : {A : Type 0} (a : A) {s : List ℕ} {at : Place} → In s at → runAt (done a) s at ≡ gotAt a at
+unfolding run toAt
+runAt-done a {s} {at} h = runAt-in (done a) h ∙ ap (gotAt a) (position-place at (h .bit))
+
+pub runAt-stop : {A : Type 0} (n : ℕ) {s : List ℕ} {at : Place} → In s at → runAt {A = A} (stop n) s at ≡ refusedAt n
+unfolding run toAt
+runAt-stop n {s} {at} h = runAt-in (stop n) h
+
+-- one question, at a place of the input
+unfoldable pub ofAnswer : Answer → At ℕ
+ofAnswer (found v j) = gotAt v (placeOf j)
+ofAnswer cut = shortAt
+
+one : (x : Answer) → toAt (follow x (λ v j. got v j)) ≡ ofAnswer x
+unfolding toAt follow ofAnswer
+one (found v j) = refl
+one cut = refl
+
+pub runAt-ask : (q : Question) {s : List ℕ} {at : Place} → In s at → runAt (ask q done) s at ≡ ofAnswer (answer q (bitsOfBytes s) (position at))
+unfolding run
+runAt-ask q {s} {at} h = runAt-in (ask q done) h ∙ one (answer q (bitsOfBytes s) (position at))
+
+-- ---- one reader behind another
+
+bindGot : {A B : Type 0} → Got A → (A → ℕ → Got B) → Got B
+bindGot (got a j) k = k a j
+bindGot (refused n j) k = refused n j
+bindGot short k = short
+
+follow-bind : {A B : Type 0} (x : Answer) (f : ℕ → ℕ → Got A) (g : ℕ → ℕ → Got B) (k : A → ℕ → Got B)
+    → ((v j : ℕ) → g v j ≡ bindGot (f v j) k) → follow x g ≡ bindGot (follow x f) k
+unfolding follow bindGot
+follow-bind (found v j) f g k h = h v j
+follow-bind cut f g k h = refl
+
+run-bind : {A B : Type 0} (p : Ask A) (k : A → Ask B) (s : List ℕ) (i : ℕ) → run (p >>= k) s i ≡ bindGot (run p s i) (λ a j. run (k a) s j)
+unfolding run _>>=_ bindGot
+run-bind (done a) k s i = refl
+run-bind (stop n) k s i = refl
+run-bind (ask q f) k s i = follow-bind (answer q s i) (λ v j. run (f v) s j) (λ v j. run (f v >>= k) s j) _ (λ v j. run-bind (f v) k s j)
+run-bind (seen f) k s i = run-bind (f (take i s)) k s i
+
+module _ {A : Type 0} (p : Ask A) (s : List ℕ) (at : Place) where
+  got-in : (a : A) (j : ℕ) → In s at → run p (bitsOfBytes s) (position at) ≡ got a j → In s (placeOf j)
+  got-in a j h e =
+      let q = settled p (bitsOfBytes s) (position at) {j = j} (omega (arith, length-bits s, h .end)) (subst (λ x. Ends x j) (sym e) refl) in
+      record { bit = omega arith; end = omega (arith, length-bits s, q .1) }
+
+  -- a run on the bytes ends at a place of theirs
+  pub stays-in : {a : A} {at′ : Place} → runAt p s at ≡ gotAt a at′ → In s at′
+  unfolding runAt toAt
+  stays-in {a} {at′} e = go (inside s at) refl (run p (bitsOfBytes s) (position at)) refl e
+    where
+      go : (b : Bool) → inside s at ≡ b → (x : Got A) → run p (bitsOfBytes s) (position at) ≡ x → cond b (toAt x) shortAt ≡ gotAt a at′ → In s at′
+      go true t (got c j) q f = subst (In s) (let z : placeOf j ≡ at′ = cc in z) (got-in c j (inside-in s at t) q)
+      go true t (refused n j) q f = absurd (let z : _≡_ {A = ℕ} 0 1 = cc in omega arith)
+      go true t short q f = absurd (let z : _≡_ {A = ℕ} 0 1 = cc in omega arith)
+      go false t x q f = absurd (let z : _≡_ {A = ℕ} 0 1 = cc in omega arith)
+
+  pub runAt-bind : {B : Type 0} (k : A → Ask B) → runAt (p >>= k) s at ≡ andThen (runAt p s at) (λ a at′. runAt (k a) s at′)
+  unfolding runAt toAt andThen bindGot
+  runAt-bind {B} k = go (inside s at) refl
+    where
+      ran : In s at → (x : Got A) → run p (bitsOfBytes s) (position at) ≡ x → toAt (bindGot x (λ a j. run (k a) (bitsOfBytes s) j)) ≡ andThen (toAt x) (λ a at′. runAt (k a) s at′)
+      ran h (got a j) e = sym (runAt-in (k a) (got-in a j h e) ∙ ap (λ i. toAt (run (k a) (bitsOfBytes s) i)) (place-position j))
+      ran h (refused n j) e = refl
+      ran h short e = refl
+
+      go : (b : Bool) → inside s at ≡ b → cond b (toAt (run (p >>= k) (bitsOfBytes s) (position at))) shortAt ≡ andThen (cond b (toAt (run p (bitsOfBytes s) (position at))) shortAt) (λ a at′. runAt (k a) s at′)
+      go true e = ap toAt (run-bind p k (bitsOfBytes s) (position at)) ∙ ran (inside-in s at e) (run p (bitsOfBytes s) (position at)) refl
+      go false e = refl
+
+-- a caller's step, by what the callee answered
+module _ {A B : Type 0} (p : Ask A) (s : List ℕ) (at : Place) (k : A → Ask B) where
+  pub bind-is : {y : At A} → runAt p s at ≡ y → runAt (p >>= k) s at ≡ andThen y (λ a at′. runAt (k a) s at′)
+  bind-is e = runAt-bind p s at k ∙ ap (λ y. andThen y (λ a at′. runAt (k a) s at′)) e
+
+  pub bind-got : {a : A} {at′ : Place} → runAt p s at ≡ gotAt a at′ → runAt (p >>= k) s at ≡ runAt (k a) s at′
+  unfolding andThen
+  bind-got e = bind-is e
+
+  pub bind-refused : {n : ℕ} → runAt p s at ≡ refusedAt n → runAt (p >>= k) s at ≡ refusedAt n
+  unfolding andThen
+  bind-refused e = bind-is e
+
+  pub bind-short : runAt p s at ≡ shortAt → runAt (p >>= k) s at ≡ shortAt
+  unfolding andThen
+  bind-short e = bind-is e
+
+-- a check that holds lets the reader go on; one that does not refuses
+module _ {B : Type 0} {b : Bool} (n : ℕ) (k : Unit {0} → Ask B) {s : List ℕ} {at : Place} (h : In s at) where
+  pub require-holds : b ≡ true → runAt (require b n >>= k) s at ≡ runAt (k tt) s at
+  unfolding require
+  require-holds e = bind-got (require b n) s at k (rw e (runAt-done tt h))
+
+  pub require-fails : b ≡ false → runAt (require b n >>= k) s at ≡ refusedAt n
+  unfolding require
+  require-fails e = bind-refused (require b n) s at k (rw e (runAt-stop n h))
+
+-- ---- lists of what was read. What was read goes in front of what is still to be read.
+
+unfoldable pub behind : {A : Type 0} → List A → At (List A) → At (List A)
+behind xs (gotAt ys at) = gotAt (xs ++ ys) at
+behind xs (refusedAt n) = refusedAt n
+behind xs shortAt = shortAt
+
+pub behind-nil : {A : Type 0} (x : At (List A)) → behind [] x ≡ x
+unfolding behind
+behind-nil (gotAt ys at) = refl
+behind-nil (refusedAt n) = refl
+behind-nil shortAt = refl
+
+-- one part of a list, then the rest of it: the step of `many` and of `each`
+module _ {A B : Type 0} (p : Ask A) (put : A → List B) (q : Ask (List B)) (s : List ℕ) (xs : List B) (at : Place) where
+  on : A → Ask (List B)
+  on x = q >>= (λ rest. done (put x ++ rest))
+
+  join : (x : A) (y : At (List B)) → ((ys : List B) (at : Place) → y ≡ gotAt ys at → In s at)
+      → behind xs (andThen y (λ ys at. runAt (done (put x ++ ys)) s at)) ≡ behind (xs ++ put x) y
+  unfolding behind andThen
+  join x (gotAt ys at) h = ap (behind xs) (runAt-done (put x ++ ys) (h ys at refl)) ∙ ap (λ l. gotAt l at) (sym (append-assoc xs (put x) ys))
+  join x (refusedAt n) h = refl
+  join x shortAt h = refl
+
+  step : {x : A} {at′ : Place} → runAt p s at ≡ gotAt x at′ → behind xs (runAt (p >>= on) s at) ≡ behind (xs ++ put x) (runAt q s at′)
+  unfolding on
+  step {x} {at′} e =
+      ap (behind xs) (bind-got p s at on e ∙ runAt-bind q s at′ (λ rest. done (put x ++ rest)))
+      ∙ join x (runAt q s at′) (λ ys at″ f. stays-in q s at′ f)
+
+  step-refused : {n : ℕ} → runAt p s at ≡ refusedAt n → behind xs (runAt (p >>= on) s at) ≡ refusedAt n
+  unfolding behind
+  step-refused e = ap (behind xs) (bind-refused p s at on e)
+
+  step-short : runAt p s at ≡ shortAt → behind xs (runAt (p >>= on) s at) ≡ shortAt
+  unfolding behind
+  step-short e = ap (behind xs) (bind-short p s at on e)
+
+none : {B : Type 0} (s : List ℕ) (xs : List B) {at : Place} → In s at → behind xs (runAt (done []) s at) ≡ gotAt xs at
+unfolding behind
+none s xs {at} h = ap (behind xs) (runAt-done [] h) ∙ ap (λ l. gotAt l at) (append-nil xs)
+
+module _ {A : Type 0} (p : Ask A) (s : List ℕ) (xs : List A) (at : Place) where
+  pub many-end : In s at → behind xs (runAt (many 0 p) s at) ≡ gotAt xs at
+  unfolding many
+  many-end h = none s xs h
+
+  pub many-step : (n : ℕ) {x : A} {at′ : Place} → runAt p s at ≡ gotAt x at′ → behind xs (runAt (many (suc n) p) s at) ≡ behind (xs ++ (x ∷ [])) (runAt (many n p) s at′)
+  unfolding many on
+  many-step n e = step p (λ a. a ∷ []) (many n p) s xs at e
+
+  pub many-refused : (n : ℕ) {k : ℕ} → runAt p s at ≡ refusedAt k → behind xs (runAt (many (suc n) p) s at) ≡ refusedAt k
+  unfolding many on
+  many-refused n e = step-refused p (λ a. a ∷ []) (many n p) s xs at e
+
+  pub many-short : (n : ℕ) → runAt p s at ≡ shortAt → behind xs (runAt (many (suc n) p) s at) ≡ shortAt
+  unfolding many on
+  many-short n e = step-short p (λ a. a ∷ []) (many n p) s xs at e
+
+module _ {A B : Type 0} (f : A → Ask (List B)) (s : List ℕ) (xs : List B) (at : Place) where
+  pub each-end : In s at → behind xs (runAt (each f []) s at) ≡ gotAt xs at
+  unfolding each
+  each-end h = none s xs h
+
+  module _ (y : A) (ys : List A) where
+    pub each-step : {x : List B} {at′ : Place} → runAt (f y) s at ≡ gotAt x at′ → behind xs (runAt (each f (y ∷ ys)) s at) ≡ behind (xs ++ x) (runAt (each f ys) s at′)
+    unfolding each on
+    each-step e = step (f y) (λ l. l) (each f ys) s xs at e
+
+    pub each-refused : {n : ℕ} → runAt (f y) s at ≡ refusedAt n → behind xs (runAt (each f (y ∷ ys)) s at) ≡ refusedAt n
+    unfolding each on
+    each-refused e = step-refused (f y) (λ l. l) (each f ys) s xs at e
+
+    pub each-short : runAt (f y) s at ≡ shortAt → behind xs (runAt (each f (y ∷ ys)) s at) ≡ shortAt
+    unfolding each on
+    each-short e = step-short (f y) (λ l. l) (each f ys) s xs at e
+
+-- ---- what a question's answer says
+
+module _ (n : ℕ) (s : List ℕ) (at : Place) {v : ℕ} {p : Place} (e : runAt (bits n) s at ≡ gotAt v p) where
+  found-bits : (j : ℕ) × (bitsAt s n 0 (position at) ≡ found v j) × (placeOf j ≡ p)
+  unfolding bits answer ofAnswer
+  found-bits = go (inside s at) refl
+    where
+      at-answer : (x : Answer) → bitsAt s n 0 (position at) ≡ x → ofAnswer x ≡ gotAt v p → (j : ℕ) × (bitsAt s n 0 (position at) ≡ found v j) × (placeOf j ≡ p)
+      at-answer (found w j) f d = let g : w ≡ v = cc in (j, f ∙ ap (λ u. found u j) g, cc)
+      at-answer cut f d = absurd (let z : _≡_ {A = ℕ} 0 1 = cc in omega arith)
+
+      go : (b : Bool) → inside s at ≡ b → (j : ℕ) × (bitsAt s n 0 (position at) ≡ found v j) × (placeOf j ≡ p)
+      go true t = at-answer (bitsAt s n 0 (position at)) refl (sym (runAt-ask (nextBits n) (inside-in s at t)) ∙ e)
+      go false t = absurd (let d = runAt-out (ask (nextBits n) done) s at t in let z : _≡_ {A = ℕ} 0 1 = cc in omega arith)
+
+  -- n positions on, and below 2 ^ n
+  pub bits-on : position p ≡ position at + n
+  bits-on = sym (ap position (found-bits .2)) ∙ place-position (found-bits .0) ∙ bits-moved s n (position at) (found-bits .1)
+
+  pub bits-below : v < 2 ^ n
+  bits-below = bits-bound s n (position at) (found-bits .1)

@@ -1,0 +1,107 @@
+-- A reader is a tree of questions to the input, and its run on a list of bits. A reader can do nothing but ask, look at
+-- the bits that it has passed, be done, or stop: so what it answers is settled by the bits that it passed, whatever the
+-- format (proofs/Prefix.antt).
+use Prim.Native.Nat.{ℕ, zero, suc, _+_, _*_}
+use mathlib.Core.Bool.{Bool, true, false, cond}
+use mathlib.Core.List.{List, [], _∷_, _++_}
+use lib.ListN.{take, drop}
+
+-- The next n bits as a number, or the zeros before the next one, which is passed too.
+pub data Question : Type 0 where
+  nextBits : ℕ → Question
+  nextZeros : Question
+
+-- `stop` refuses, by a number; `seen` hands on the bits that were passed.
+pub data Ask (A : Type 0) : Type 0 where
+  done : A → Ask A
+  stop : ℕ → Ask A
+  ask : Question → (ℕ → Ask A) → Ask A
+  seen : (List ℕ → Ask A) → Ask A
+
+-- ---- how readers are written
+
+infixl 10 _>>=_
+infixl 10 _>>_
+infixr 5 if_then_else_
+-- one reader, then another that may use what the first got
+unfoldable pub _>>=_ : {A B : Type 0} → Ask A → (A → Ask B) → Ask B
+done a >>= k = k a
+stop n >>= k = stop n
+ask q f >>= k = ask q (λ x. f x >>= k)
+seen f >>= k = seen (λ x. f x >>= k)
+
+abbrev pub _>>_ : {A B : Type 0} → Ask A → Ask B → Ask B
+p >> q = p >>= (λ _. q)
+
+abbrev pub if_then_else_ : {A : Type 0} → Bool → A → A → A
+if b then x else y = cond b x y
+
+unfoldable pub bits : ℕ → Ask ℕ
+bits n = ask (nextBits n) done
+
+unfoldable pub zeros : Ask ℕ
+zeros = ask nextZeros done
+
+-- all bits so far
+unfoldable pub passed : Ask (List ℕ)
+passed = seen done
+
+-- on, or a refusal
+unfoldable pub require : Bool → ℕ → Ask (Unit {0})
+require b n = if b then done tt else stop n
+
+-- the same reader n times
+unfoldable pub many : {A : Type 0} → ℕ → Ask A → Ask (List A)
+many zero p = done []
+many (suc n) p = do
+  a ← p
+  rest ← many n p
+  done (a ∷ rest)
+
+-- a reader for each of some things in turn; what they get, joined
+unfoldable pub each : {A B : Type 0} → (A → Ask (List B)) → List A → Ask (List B)
+each f [] = done []
+each f (x ∷ xs) = do
+  first ← f x
+  rest ← each f xs
+  done (first ++ rest)
+
+-- ---- how they run
+
+-- a number and the position behind it, or that the input ends first
+pub data Answer : Type 0 where
+  found : ℕ → ℕ → Answer
+  cut : Answer
+
+-- n more bits behind those that made `acc`, at position i; the list is the input from there
+unfoldable pub bitsFrom : ℕ → ℕ → ℕ → List ℕ → Answer
+bitsFrom zero acc i s = found acc i
+bitsFrom (suc n) acc i [] = cut
+bitsFrom (suc n) acc i (b ∷ s) = bitsFrom n (acc * 2 + b) (suc i) s
+
+-- the zeros behind those z that were counted
+unfoldable pub zerosFrom : ℕ → ℕ → List ℕ → Answer
+zerosFrom z i [] = cut
+zerosFrom z i (zero ∷ s) = zerosFrom (suc z) (suc i) s
+zerosFrom z i (suc b ∷ s) = found z (suc i)
+
+unfoldable pub answer : Question → List ℕ → ℕ → Answer
+answer (nextBits n) s i = bitsFrom n zero i (drop i s)
+answer nextZeros s i = zerosFrom zero i (drop i s)
+
+-- a value and the position behind what was read; a refusal and the position behind what was read for it; cut short
+pub data Got (A : Type 0) : Type 0 where
+  got : A → ℕ → Got A
+  refused : ℕ → ℕ → Got A
+  short : Got A
+
+unfoldable pub follow : {A : Type 0} → Answer → (ℕ → ℕ → Got A) → Got A
+follow (found v j) k = k v j
+follow cut k = short
+
+-- the reader's run on a list of bits, from position i
+unfoldable pub run : {A : Type 0} → Ask A → List ℕ → ℕ → Got A
+run (done a) s i = got a i
+run (stop n) s i = refused n i
+run (ask q k) s i = follow (answer q s i) (λ v j. run (k v) s j)
+run (seen k) s i = run (k (take i s)) s i

@@ -1,0 +1,64 @@
+-- The frame (RFC 9639 section 9): header, subframes, footer.
+use Prim.Native.Nat.{ℕ, _+_, _-_, _%_}
+use mathlib.Core.Bool.{cond}
+use mathlib.Core.List.{List, [], _∷_}
+use lib.Dec.{leb, ltb, eqb}
+use lib.IntN.{ℤ}
+use lib.ListN.{length, replicate}
+use Rattle.reading.specs.Reading.{Ask, done, _>>=_, _>>_, bits, passed, require, each}
+use Rattle.rfc9639.specs.declared.ChannelAssignment.{ChannelAssignment}
+use Rattle.rfc9639.specs.declared.ChannelAssignment.the-variants.{Independent, LeftSide, SideRight, MidSide}
+use Rattle.rfc9639.specs.declared.FrameHeader.{FrameHeader}
+use Rattle.rfc9639.specs.CheckSums.{crc16}
+use Rattle.rfc9639.specs.Header.{header, sampleCount}
+use Rattle.rfc9639.specs.Subframe.{subframe}
+use Rattle.rfc9639.specs.Stereo.{joined}
+
+-- what the caller gives besides the bytes
+pub record Settings : Type 0 where
+  pub room : ℕ
+
+-- a header whose frame can be read: its bits are in it, and there is room for its samples
+unfoldable pub opening : Settings → Ask FrameHeader
+opening set = do
+  h ← header
+  require (ltb 0 (h .bits)) 8
+  require (leb (sampleCount h) (set .room)) 7
+  done h
+
+-- the width of each channel (section 4.2): a side channel is one bit wider
+unfoldable pub widths : ChannelAssignment → ℕ → List ℕ
+widths (Independent n) b = replicate n b
+widths LeftSide b = b ∷ (b + 1) ∷ []
+widths SideRight b = (b + 1) ∷ b ∷ []
+widths MidSide b = b ∷ (b + 1) ∷ []
+
+-- the bits up to the next byte
+unfoldable pub padding : ℕ → ℕ
+padding n = (8 - n % 8) % 8
+
+-- Section 9.3. The padding is passed unlooked at; the sum is over the whole frame before it.
+unfoldable pub footer : Ask (Unit {0})
+footer = do
+  coded ← passed
+  pad ← bits (padding (length coded))
+  before ← passed
+  sum ← bits 16
+  require (eqb sum (crc16 before)) 10
+
+-- the samples of all channels, one channel behind the other
+unfoldable pub body : FrameHeader → Ask (List ℤ)
+body h = do
+  xs ← each (subframe (h .size)) (widths (h .channels) (h .bits))
+  footer
+  done (joined (h .channels) (h .size) xs)
+
+pub record Frame : Type 0 where
+  pub header : FrameHeader
+  pub samples : List ℤ
+
+unfoldable pub frame : Settings → Ask Frame
+frame set = do
+  h ← opening set
+  xs ← body h
+  done (record { header = h; samples = xs })

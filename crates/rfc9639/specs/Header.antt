@@ -1,0 +1,99 @@
+-- The frame header (RFC 9639 section 9.1), with its checks in the order of the fields, each as soon as its field is
+-- there. A refusal's number is document 01's.
+use Prim.Native.Nat.{ℕ, suc, _+_, _*_, _/_, _%_, _^_}
+use mathlib.Core.Bool.{Bool, true, false, cond, not, _||_}
+use mathlib.Core.List.{List}
+use lib.Dec.{leb, ltb, eqb}
+use Rattle.reading.specs.Reading.{Ask, done, stop, _>>=_, _>>_, bits, passed, require, if_then_else_}
+use Rattle.rfc9639.specs.declared.BlockTime.{BlockTime}
+use Rattle.rfc9639.specs.declared.BlockTime.the-variants.{FrameNumber, SampleNumber}
+use Rattle.rfc9639.specs.declared.ChannelAssignment.{ChannelAssignment}
+use Rattle.rfc9639.specs.declared.ChannelAssignment.the-variants.{Independent, LeftSide, SideRight, MidSide}
+use Rattle.rfc9639.specs.declared.FrameHeader.{FrameHeader}
+use Rattle.rfc9639.specs.CheckSums.{crc8}
+use Rattle.rfc9639.specs.Number.{codedNumber}
+
+-- Section 9.1.3. Codes 11 to 15 are refused before.
+unfoldable pub assignment : ℕ → ChannelAssignment
+assignment code =
+    if ltb code 8 then Independent (code + 1)
+    else if eqb code 8 then LeftSide
+    else if eqb code 9 then SideRight
+    else MidSide
+
+-- Section 9.1.4. Code 0 leaves the bits to the stream; 3 is reserved; 32 bits, code 7, are not done.
+unfoldable pub bitDepth : ℕ → Ask ℕ
+bitDepth code =
+    if eqb code 0 then done 0
+    else if eqb code 1 then done 8
+    else if eqb code 2 then done 12
+    else if eqb code 3 then stop 4
+    else if eqb code 4 then done 16
+    else if eqb code 5 then done 20
+    else if eqb code 6 then done 24
+    else stop 8
+
+-- Section 9.1.1 and, for the codes 6 and 7 whose size comes behind the number, 9.1.6. Code 0 is refused before. Of the
+-- 16-bit form the value 65535 is reserved.
+unfoldable pub blockSize : ℕ → Ask ℕ
+blockSize code =
+    if eqb code 1 then done 192
+    else if leb code 5 then done (144 * 2 ^ code)
+    else if eqb code 6 then (do v ← bits 8; done (v + 1))
+    else if eqb code 7 then (do v ← bits 16; require (ltb v 65535) 4; done (v + 1))
+    else done (2 ^ code)
+
+-- Section 9.1.7: how many bits of a sample rate come behind the number. The rate itself sways no sample.
+unfoldable pub rateBits : ℕ → ℕ
+rateBits code =
+    if eqb code 12 then 8
+    else if eqb code 13 then 16
+    else if eqb code 14 then 16
+    else 0
+
+-- a frame's number where the blocking bit is 0, a sample's where it is 1
+unfoldable pub timeOf : ℕ → ℕ → BlockTime
+timeOf blocking n = if eqb blocking 0 then FrameNumber n else SampleNumber n
+
+unfoldable pub header : Ask FrameHeader
+header = do
+  sync ← bits 16
+  require (eqb (sync / 2) 0x7ffc) 3
+  sizeCode ← bits 4
+  require (ltb 0 sizeCode) 4
+  rateCode ← bits 4
+  require (ltb rateCode 15) 4
+  channelCode ← bits 4
+  require (leb channelCode 10) 4
+  bitsCode ← bits 3
+  depth ← bitDepth bitsCode
+  reserved ← bits 1
+  require (eqb reserved 0) 4
+  number ← codedNumber
+  require (eqb (sync % 2) 1 || leb number 2147483647) 5
+  size ← blockSize sizeCode
+  rate ← bits (rateBits rateCode)
+  before ← passed
+  sum ← bits 8
+  require (eqb sum (crc8 before)) 6
+  done (record { time = timeOf (sync % 2) number; size = size; channels = assignment channelCode; bits = depth })
+
+-- ---- what a header says of its frame
+
+unfoldable pub channelCount : ChannelAssignment → ℕ
+channelCount (Independent n) = n
+channelCount LeftSide = 2
+channelCount SideRight = 2
+channelCount MidSide = 2
+
+-- N: samples of all channels
+unfoldable pub sampleCount : FrameHeader → ℕ
+sampleCount h = channelCount (h .channels) * h .size
+
+-- the number of the frame's first sample
+unfoldable pub firstSample : FrameHeader → ℕ
+firstSample h = go (h .time)
+  where
+    go : BlockTime → ℕ
+    go (FrameNumber n) = h .size * n
+    go (SampleNumber n) = n

@@ -1,0 +1,32 @@
+-- The coded number (RFC 9639 section 9.1.5), one to seven bytes. Overlong forms are read. The RFC stops at 36 bits, so
+-- no number starts with FF.
+use Prim.Native.Nat.{ℕ, zero, suc, _+_, _*_, _/_, _%_}
+use mathlib.Core.Bool.{cond}
+use lib.Dec.{ltb, eqb}
+use Rattle.reading.specs.Reading.{Ask, done, stop, _>>=_, _>>_, bits, require, if_then_else_}
+
+-- n bytes 10xxxxxx behind what made v
+unfoldable pub followed : ℕ → ℕ → Ask ℕ
+followed zero v = done v
+followed (suc n) v = do
+  b ← bits 8
+  require (eqb (b / 64) 2) 5
+  followed n (v * 64 + b % 64)
+
+-- what the first byte says, by the ones that it starts with
+unfoldable pub numberFrom : ℕ → Ask ℕ
+numberFrom b =
+    if ltb b 0x80 then done b
+    else if ltb b 0xc0 then stop 5
+    else if ltb b 0xe0 then followed 1 (b % 32)
+    else if ltb b 0xf0 then followed 2 (b % 16)
+    else if ltb b 0xf8 then followed 3 (b % 8)
+    else if ltb b 0xfc then followed 4 (b % 4)
+    else if ltb b 0xfe then followed 5 (b % 2)
+    else if ltb b 0xff then followed 6 0
+    else stop 5
+
+unfoldable pub codedNumber : Ask ℕ
+codedNumber = do
+  b ← bits 8
+  numberFrom b

@@ -1,0 +1,47 @@
+-- The coded residual (RFC 9639 section 9.2.7).
+use Prim.Native.Nat.{ℕ, suc, _+_, _-_, _*_, _/_, _%_, _^_}
+use mathlib.Core.Bool.{cond}
+use mathlib.Core.List.{List, _∷_}
+use lib.Dec.{leb, ltb, eqb}
+use lib.IntN.{ℤ, pos, negsuc}
+use lib.ListN.{replicate}
+use Rattle.reading.specs.Reading.{Ask, done, stop, _>>=_, _>>_, bits, zeros, require, many, each, if_then_else_}
+
+-- A residual from its folded form: even to half of it, odd to minus one minus half of it.
+unfoldable pub unfolded : ℕ → ℤ
+unfolded n = if eqb (n % 2) 0 then pos (n / 2) else negsuc (n / 2)
+
+-- a quotient and a remainder of k bits, folded; 32 bits are kept
+unfoldable pub folded : ℕ → ℕ → ℕ → ℕ
+folded k q r = (q * 2 ^ k + r) % 2 ^ 32
+
+-- Section 9.2.7.2: the quotient in unary, then the remainder.
+unfoldable pub rice : ℕ → Ask ℤ
+rice k = do
+  q ← zeros
+  r ← bits k
+  done (unfolded (folded k q r))
+
+-- n residuals under a parameter. The last parameter of each method, residuals stored as they are, is not done.
+unfoldable pub coded : ℕ → ℕ → ℕ → Ask (List ℤ)
+coded method k n = if eqb k (2 ^ (4 + method) - 1) then stop 8 else many n (rice k)
+
+-- Section 9.2.7.1: a parameter of 4 bits in method 0 and of 5 in method 1, then the residuals.
+unfoldable pub partition : ℕ → ℕ → Ask (List ℤ)
+partition method n = do
+  k ← bits (4 + method)
+  coded method k n
+
+-- 2 ^ order partitions of one size; the first is shorter by the warm-up
+unfoldable pub partitionSizes : ℕ → ℕ → ℕ → List ℕ
+partitionSizes order size warm = (size - warm) ∷ replicate (2 ^ order - 1) size
+
+-- the residual behind `warm` samples of a block of n
+unfoldable pub residual : ℕ → ℕ → Ask (List ℤ)
+residual warm n = do
+  method ← bits 2
+  require (ltb method 2) 4
+  order ← bits 4
+  require (eqb (n % 2 ^ order) 0) 9
+  require (leb warm (n / 2 ^ order)) 9
+  each (partition method) (partitionSizes order (n / 2 ^ order) warm)

@@ -1,0 +1,36 @@
+-- Left and right from a side channel (RFC 9639 section 4.2), in the 32 bits of a sample as claxon has them. The two
+-- channels stand one behind the other, n samples each.
+use Prim.Native.Nat.{ℕ}
+use mathlib.Core.List.{List, [], _∷_, _++_}
+use lib.IntN.{ℤ, pos, _+ℤ_, _-ℤ_, _*ℤ_}
+use lib.ListN.{take, drop}
+use Rattle.rfc9639.specs.declared.ChannelAssignment.{ChannelAssignment}
+use Rattle.rfc9639.specs.declared.ChannelAssignment.the-variants.{Independent, LeftSide, SideRight, MidSide}
+use Rattle.rfc9639.specs.Integers.{wrapped, low, shiftDown}
+
+unfoldable pub rightOf : ℤ → ℤ → ℤ
+rightOf left side = wrapped 32 (left -ℤ side)
+
+unfoldable pub leftOf : ℤ → ℤ → ℤ
+leftOf side right = wrapped 32 (side +ℤ right)
+
+-- Twice the mean lost its low bit, which left plus right shares with left minus right.
+unfoldable pub doubled : ℤ → ℤ → ℤ
+doubled mid side = wrapped 32 (mid *ℤ pos 2 +ℤ pos (low 1 side))
+
+unfoldable pub leftOfMid : ℤ → ℤ → ℤ
+leftOfMid mid side = shiftDown 1 (wrapped 32 (doubled mid side +ℤ side))
+
+unfoldable pub rightOfMid : ℤ → ℤ → ℤ
+rightOfMid mid side = shiftDown 1 (wrapped 32 (doubled mid side -ℤ side))
+
+unfoldable pub pairwise : (ℤ → ℤ → ℤ) → List ℤ → List ℤ → List ℤ
+pairwise f [] ys = []
+pairwise f (x ∷ xs) [] = []
+pairwise f (x ∷ xs) (y ∷ ys) = f x y ∷ pairwise f xs ys
+
+unfoldable pub joined : ChannelAssignment → ℕ → List ℤ → List ℤ
+joined (Independent k) n xs = xs
+joined LeftSide n xs = take n xs ++ pairwise rightOf (take n xs) (drop n xs)
+joined SideRight n xs = pairwise leftOf (take n xs) (drop n xs) ++ drop n xs
+joined MidSide n xs = pairwise leftOfMid (take n xs) (drop n xs) ++ pairwise rightOfMid (take n xs) (drop n xs)

@@ -1,0 +1,85 @@
+-- The subframe (RFC 9639 section 9.2): one channel of a block.
+use Prim.Native.Nat.{ℕ, suc, _+_, _-_, _≤_, _*_, _%_}
+use mathlib.Core.Bool.{Bool, cond, not, _&&_, _||_}
+use mathlib.Core.List.{List, map}
+use lib.Dec.{leb, ltb, eqb}
+use lib.IntN.{ℤ, pos}
+use lib.ListN.{replicate}
+use Rattle.reading.specs.Reading.{Ask, done, stop, _>>=_, _>>_, bits, zeros, require, many, if_then_else_}
+use Rattle.rfc9639.specs.declared.SubframeType.{SubframeType}
+use Rattle.rfc9639.specs.declared.SubframeType.the-variants.{Constant, Verbatim, Fixed, Lpc}
+use Rattle.rfc9639.specs.declared.SubframeHeader.{SubframeHeader}
+use Rattle.rfc9639.specs.Integers.{signed, sample, shiftUp}
+use Rattle.rfc9639.specs.Residual.{residual}
+use Rattle.rfc9639.specs.Prediction.{predict, fixedCoefficients}
+
+-- Section 9.2.1, table 19.
+unfoldable pub subframeType : ℕ → Ask SubframeType
+subframeType code =
+    if eqb code 0 then done Constant
+    else if eqb code 1 then done Verbatim
+    else if ltb code 8 then stop 4
+    else if leb code 12 then done (Fixed (code - 8))
+    else if ltb code 32 then stop 4
+    else done (Lpc (code - 31))
+
+-- Section 9.2.2: a flag and, where it is set, the count in unary, less one.
+unfoldable pub wastedBits : Ask ℕ
+wastedBits = do
+  flag ← bits 1
+  if eqb flag 0 then done 0 else (do z ← zeros; done (z + 1))
+
+-- of a channel whose samples have `width` bits
+unfoldable pub subframeHeader : ℕ → Ask SubframeHeader
+subframeHeader width = do
+  reserved ← bits 1
+  require (eqb reserved 0) 4
+  code ← bits 6
+  kind ← subframeType code
+  wasted ← wastedBits
+  require (leb wasted 31 && ltb wasted width) 9
+  done (record { kind = kind; wasted = wasted })
+
+-- the samples that a predictor starts from
+unfoldable pub orderOf : SubframeType → ℕ
+orderOf Constant = 0
+orderOf Verbatim = 0
+orderOf (Fixed k) = k
+orderOf (Lpc k) = k
+
+-- Section 9.2.5.
+unfoldable pub fixed : ℕ → ℕ → ℕ → Ask (List ℤ)
+fixed order w n = do
+  warm ← many order (sample w)
+  res ← residual order n
+  done (predict (fixedCoefficients order) 0 warm res)
+
+-- Section 9.2.6: the precision less one, of which 15 is forbidden; the shift, of which a negative one is not done; the
+-- coefficients, that of the latest sample first.
+unfoldable pub lpc : ℕ → ℕ → ℕ → Ask (List ℤ)
+lpc order w n = do
+  warm ← many order (sample w)
+  precision ← bits 4
+  require (ltb precision 15) 4
+  shift ← bits 5
+  require (ltb shift 16) 8
+  coefficients ← many order (sample (precision + 1))
+  res ← residual order n
+  done (predict coefficients shift warm res)
+
+-- n samples of w bits, by kind (sections 9.2.3 to 9.2.6)
+unfoldable pub samples : SubframeType → ℕ → ℕ → Ask (List ℤ)
+samples Constant w n = do
+  x ← sample w
+  done (replicate n x)
+samples Verbatim w n = many n (sample w)
+samples (Fixed k) w n = fixed k w n
+samples (Lpc k) w n = lpc k w n
+
+-- A channel of n samples. The wasted bits come off the width, and back as zeros at the end.
+unfoldable pub subframe : ℕ → ℕ → Ask (List ℤ)
+subframe n width = do
+  h ← subframeHeader width
+  require (leb (orderOf (h .kind)) n) 9
+  xs ← samples (h .kind) (width - h .wasted) n
+  done (map (shiftUp (h .wasted)) xs)

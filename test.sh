@@ -1,0 +1,25 @@
+#!/bin/sh
+# The gate. From a fresh clone: sh test.sh
+# It holds the kit to the one that README.md names, the layout to the formatter's, and then proves every crate, tries
+# every must-fail edit and runs every program, all from nothing. Its last line is 'N passed, M failed'.
+set -u
+cd "$(dirname "$0")" || exit 2
+
+if ! command -v rt >/dev/null 2>&1; then
+    echo "test.sh: the Rattle kit's command 'rt' is not on the PATH; README.md, 'What you need', says which kit" >&2
+    exit 2
+fi
+wanted=$(sed -n 's/^Kit: `\(.*\)`$/\1/p' README.md)
+found=$(rt version)
+if [ "$wanted" != "$found" ]; then
+    echo "test.sh: README.md names the kit '$wanted', and this is '$found': proofs may differ; use the named kit, or check all with this one and change that line" >&2
+    exit 2
+fi
+if ! rt fmt --check; then
+    echo "test.sh: not in the formatter's layout: run 'rt fmt'" >&2
+    exit 1
+fi
+log=$(mktemp) || exit 2
+trap 'rm -f "$log"' EXIT
+rt ci 2>&1 | tee "$log"
+tail -n 1 "$log" | grep -Eq '^[1-9][0-9]* passed, 0 failed$'
