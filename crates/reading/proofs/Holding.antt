@@ -31,6 +31,13 @@ module _ {A B : Type 0} {R : ℕ → Type 0} {Q : A → Type 0} {P : B → Type 
   holds-bind (any-zeros h) g = any-zeros (λ v. holds-bind (h v) g)
   holds-bind (any-seen h) g = any-seen (λ l. holds-bind (h l) g)
 
+pub holds-weaken : {A : Type 0} {R : ℕ → Type 0} {P Q : A → Type 0} {p : Ask A} → ((a : A) → P a → Q a) → Holds R P p → Holds R Q p
+holds-weaken f (value {a = a} h) = value (f a h)
+holds-weaken f (refusal h) = refusal h
+holds-weaken f (any-bits h) = any-bits (λ v l. holds-weaken f (h v l))
+holds-weaken f (any-zeros h) = any-zeros (λ v. holds-weaken f (h v))
+holds-weaken f (any-seen h) = any-seen (λ l. holds-weaken f (h l))
+
 module _ {R : ℕ → Type 0} where
   pub holds-bits : (n : ℕ) → Holds R (λ v. v < 2 ^ n) (bits n)
   unfolding bits

@@ -8,7 +8,7 @@ use mathlib.Core.List.{List, [], _∷_, _++_, append-assoc}
 use lib.ListN.{length, take, drop, length-take, length-append}
 use lib.Seq.{take-append-add}
 use Rattle.reading.specs.declared.Place.{Place}
-use Rattle.reading.specs.Reading.{Ask, seen, Got, got, refused, short, run}
+use Rattle.reading.specs.Reading.{Ask, passed, Got, got, refused, short, run}
 use Rattle.reading.specs.Bytes.{bitsOfByte, bitsOfBytes}
 use Rattle.reading.specs.Places.{position, placeOf, inside, At, gotAt, refusedAt, shortAt, toAt, runAt}
 use Rattle.reading.proofs.Prefix.{Ends, settled, extended, kept, cut-short}
@@ -32,23 +32,20 @@ bits-take (suc m) (b ∷ s) =
     ap (λ (l : List ℕ). bitsOfByte b ++ l) (bits-take m s) ∙ sym (eight b (8 * m) (bitsOfBytes s))
     ∙ ap (λ n. take n (bitsOfByte b ++ bitsOfBytes s)) (let e : 8 + 8 * m ≡ 8 * suc m = omega arith in e)
 
--- what was seen at a place: as many bits as its position
-pub seen-at : {A : Type 0} (k : List ℕ → Ask A) (s : List ℕ) (at : Place) → In s at → runAt (seen k) s at ≡ runAt (k (take (position at) (bitsOfBytes s))) s at
-unfolding run
-seen-at k s at h = runAt-in (seen k) h ∙ sym (runAt-in (k (take (position at) (bitsOfBytes s))) h)
+-- what was passed at a place: as many bits as its position
+pub passed-at : (s : List ℕ) (at : Place) → In s at → runAt passed s at ≡ gotAt (take (position at) (bitsOfBytes s)) at
+unfolding run passed toAt
+passed-at s at h = runAt-in passed h ∙ ap (gotAt (take (position at) (bitsOfBytes s))) (position-place at (h .bit))
 
-pub seen-length : (s : List ℕ) (at : Place) → In s at → length (take (position at) (bitsOfBytes s)) ≡ position at
-seen-length s at h = lib.Seq.length-take-le (position at) (bitsOfBytes s) (omega (arith, length-bits s, h .end))
+pub passed-length : (s : List ℕ) (at : Place) → In s at → length (take (position at) (bitsOfBytes s)) ≡ position at
+passed-length s at h = lib.Seq.length-take-le (position at) (bitsOfBytes s) (omega (arith, length-bits s, h .end))
 
--- at the start of a byte, what was seen is the bits of the bytes before it
-pub seen-bytes : {A : Type 0} (k : List ℕ → Ask A) (s : List ℕ) (at : Place) → at .bit ≡ 0 → In s at
-    → runAt (seen k) s at ≡ runAt (k (bitsOfBytes (take (at .byte) s))) s at
-unfolding run
-seen-bytes k s at e h =
-    runAt-in (seen k) h ∙ ap (λ l. toAt (run (k l) (bitsOfBytes s) (position at))) past ∙ sym (runAt-in (k (bitsOfBytes (take (at .byte) s))) h)
-  where
-    past : take (position at) (bitsOfBytes s) ≡ bitsOfBytes (take (at .byte) s)
-    past = ap (λ n. take n (bitsOfBytes s)) (let f : 8 * at .byte + at .bit ≡ 8 * at .byte = omega arith in f) ∙ sym (bits-take (at .byte) s)
+-- at the start of a byte, the bits of the bytes before it
+pub passed-bytes : (s : List ℕ) (at : Place) → at .bit ≡ 0 → In s at → runAt passed s at ≡ gotAt (bitsOfBytes (take (at .byte) s)) at
+passed-bytes s at e h =
+    passed-at s at h
+    ∙ ap (λ (l : List ℕ). gotAt l at)
+    (ap (λ n. take n (bitsOfBytes s)) (let f : 8 * at .byte + at .bit ≡ 8 * at .byte = omega arith in f) ∙ sym (bits-take (at .byte) s))
 
 -- what the runs on the bits say of those on the bytes
 ended : {A : Type 0} (p : Ask A) (s : List ℕ) (at : Place) → (runAt p s at ≡ shortAt → ⊥)

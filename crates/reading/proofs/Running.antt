@@ -160,15 +160,37 @@ module _ {A B : Type 0} (p : Ask A) (s : List ℕ) (at : Place) (k : A → Ask B
   unfolding andThen
   bind-short e = bind-is e
 
--- a check that holds lets the reader go on; one that does not refuses
+-- what was got behind another reader was got from where that one ended
+module _ {A B : Type 0} (p : Ask A) (k : A → Ask B) (s : List ℕ) (at : Place) where
+  pub bind-parts : {b : B} {end : Place} → runAt (p >>= k) s at ≡ gotAt b end
+      → (a : A) × (at′ : Place) × (runAt p s at ≡ gotAt a at′) × (runAt (k a) s at′ ≡ gotAt b end)
+  unfolding andThen
+  bind-parts {b} {end} e = go (runAt p s at) refl
+    where
+      go : (y : At A) → runAt p s at ≡ y → (a : A) × (at′ : Place) × (runAt p s at ≡ gotAt a at′) × (runAt (k a) s at′ ≡ gotAt b end)
+      go (gotAt a at′) f = (a, at′, f, sym (bind-got p s at k f) ∙ e)
+      go (refusedAt n) f = absurd (let d = bind-refused p s at k f in let z : _≡_ {A = ℕ} 0 1 = cc in omega arith)
+      go shortAt f = absurd (let d = bind-short p s at k f in let z : _≡_ {A = ℕ} 0 1 = cc in omega arith)
+
+-- a check that holds lets the reader go on where it is; one that does not refuses
+require-is : (b : Bool) (n : ℕ) {s : List ℕ} {at : Place} → In s at → runAt (require b n) s at ≡ cond b (gotAt tt at) (refusedAt n)
+unfolding require
+require-is true n h = runAt-done tt h
+require-is false n h = runAt-stop n h
+
 module _ {B : Type 0} {b : Bool} (n : ℕ) (k : Unit {0} → Ask B) {s : List ℕ} {at : Place} (h : In s at) where
   pub require-holds : b ≡ true → runAt (require b n >>= k) s at ≡ runAt (k tt) s at
-  unfolding require
-  require-holds e = bind-got (require b n) s at k (rw e (runAt-done tt h))
+  require-holds e = bind-got (require b n) s at k (require-is b n h ∙ rw e)
 
   pub require-fails : b ≡ false → runAt (require b n >>= k) s at ≡ refusedAt n
-  unfolding require
-  require-fails e = bind-refused (require b n) s at k (rw e (runAt-stop n h))
+  require-fails e = bind-refused (require b n) s at k (require-is b n h ∙ rw e)
+
+pub require-parts : (b : Bool) (n : ℕ) (s : List ℕ) (at : Place) {end : Place} → In s at → runAt (require b n) s at ≡ gotAt tt end → (b ≡ true) × (end ≡ at)
+require-parts b n s at {end} h e = go b (sym (require-is b n h) ∙ e)
+  where
+    go : (c : Bool) → cond c (gotAt (tt {0}) at) (refusedAt n) ≡ gotAt (tt {0}) end → (c ≡ true) × (end ≡ at)
+    go true f = (refl, cc)
+    go false f = absurd (let z : _≡_ {A = ℕ} 0 1 = cc in omega arith)
 
 -- ---- lists of what was read. What was read goes in front of what is still to be read.
 

@@ -1,0 +1,123 @@
+-- DEMAND 3, of the definition's `read`: more bytes never unsay an answer; an accepted frame's counted bytes are just
+-- those that it needs; more room changes nothing but a lack of it; what the buffer held sways nothing. All of it follows
+-- from the prefix rules, which hold of every reader (reading, proofs/Prefix), and from no detail of the format.
+-- Assumes nothing.
+use Prim.Native.Nat.{ℕ, zero, suc, _+_, _*_, _≤_, _<_}
+use native.Mathlib.Omega.{arith}
+use mathlib.Core.Logic.{_≢_}
+use mathlib.Core.Path.{_≡_, refl, ap, sym, _∙_, subst}
+use mathlib.Core.List.{List, [], _∷_, _++_, append-assoc}
+use lib.IntN.{ℤ}
+use lib.ListN.{length, take, drop, length-append, length-drop}
+use lib.Seq.{drop-append-le, take-append-seam, drop-append-seam, take-at, drop-at}
+use Rattle.reading.specs.Reading.{bitsFrom, answer, follow, run, _>>=_, bits}
+use Rattle.reading.specs.Bytes.{bitsOfBytes}
+use Rattle.reading.specs.Places.{runAt, inside, toAt, placeOf}
+use Rattle.reading.proofs.Holding.{Meets, holds-at, Sized, Every}
+use Rattle.rfc9639.specs.Header.{header, sampleCount}
+use Rattle.rfc9639.specs.Frame.{Settings, opening, frame}
+use Rattle.rfc9639.specs.Read.{Report, refusal, accepted, Result, untouched, cutShort, begun, resultOf, result, Outcome, read}
+use Rattle.demands.proofs.Frames.{Listed}
+use Rattle.demands.proofs.Samples.{Sample, Whole, frame-holds}
+use Rattle.demands.proofs.Answers
+
+-- what a result comes to in a buffer
+filled : List ℤ → Result → Outcome
+filled b r = record { report = r .report; buffer = r .front ++ drop (length (r .front)) b }
+
+read-is : (s : List ℕ) (b : List ℤ) → read s b ≡ filled b (result (record { room = length b }) s)
+unfolding read filled
+read-is s b = refl
+
+-- ---- 1. More bytes never unsay an answer: one other than 1 and 2 stays, in number, reports and buffer, whatever follows.
+
+pub never-unsaid : (s t : List ℕ) (b : List ℤ) → read s b .report .number ≢ 1 → read s b .report .number ≢ 2 → read (s ++ t) b ≡ read s b
+unfolding read
+never-unsaid s t b one two = read-is (s ++ t) b ∙ ap (filled b) (Answers.extended (record { room = length b }) s t one two) ∙ sym (read-is s b)
+
+-- ---- 2. An accepted frame: its counted bytes alone get its answer and buffer; each shorter beginning of them gets 2, the
+-- empty one 1.
+
+module _ (s : List ℕ) (b : List ℤ) (frame : read s b .report .number ≡ 0) where
+  pub counted-there : read s b .report .consumed ≤ length s
+  unfolding read
+  counted-there = Answers.there (record { room = length b }) s frame
+
+  pub counted-suffice : read (take (read s b .report .consumed) s) b ≡ read s b
+  unfolding read
+  counted-suffice = read-is _ b ∙ ap (filled b) (Answers.suffice (record { room = length b }) s frame) ∙ sym (read-is s b)
+
+  pub fewer-cut-short : (m : ℕ) → 0 < m → m < read s b .report .consumed → read (take m s) b .report .number ≡ 2
+  unfolding read
+  fewer-cut-short m some l = Answers.fewer (record { room = length b }) s frame m some l
+
+pub nothing-left : (b : List ℤ) → read [] b .report .number ≡ 1
+unfolding read result begun opening header bits _>>=_ runAt inside toAt run follow answer bitsFrom bitsOfBytes resultOf untouched refusal cutShort
+nothing-left b = refl
+
+-- ---- 3. More room changes no answer but 7: number, reports and samples are the same, and what the buffer has more is
+-- untouched.
+
+pub more-room : (s : List ℕ) (b more : List ℤ) → read s b .report .number ≢ 7
+    → read s (b ++ more) ≡ record { report = read s b .report; buffer = read s b .buffer ++ more }
+unfolding read filled
+more-room s b more lacks =
+    let set : Settings = record { room = length b } in
+    let front = result set s .front in
+    ap (filled (b ++ more)) (Answers.roomier (length b) (length (b ++ more)) (omega (arith, length-append b more)) s lacks)
+    ∙ ap (λ (l : List ℤ). record { report = result set s .report; buffer = l })
+    (ap (λ (l : List ℤ). front ++ l) (drop-append-le (length front) b more (Answers.front-room set s)) ∙ sym (append-assoc front (drop (length front) b) more))
+
+-- ---- 4. What the buffer held sways nothing but the places that stay untouched.
+
+-- how many places are written, by the bytes and the room
+pub written : List ℕ → ℕ → ℕ
+written s room = length (result (record { room = room }) s .front)
+
+written-first : (s : List ℕ) (b : List ℤ) → take (written s (length b)) (read s b .buffer) ≡ result (record { room = length b }) s .front
+unfolding read written
+written-first s b = take-append-seam (result (record { room = length b }) s .front) _
+
+pub untouched-behind : (s : List ℕ) (b : List ℤ) → drop (written s (length b)) (read s b .buffer) ≡ drop (written s (length b)) b
+unfolding read written
+untouched-behind s b = drop-append-seam (result (record { room = length b }) s .front) _
+
+module _ (s : List ℕ) (b b′ : List ℤ) (e : length b ≡ length b′) where
+  pub unswayed-report : read s b .report ≡ read s b′ .report
+  unfolding read
+  unswayed-report = ap (λ n. result (record { room = n }) s .report) e
+
+  pub unswayed-front : take (written s (length b)) (read s b .buffer) ≡ take (written s (length b)) (read s b′ .buffer)
+  unswayed-front =
+      written-first s b ∙ ap (λ n. result (record { room = n }) s .front) e ∙ sym (written-first s b′)
+      ∙ ap (λ n. take (written s n) (read s b′ .buffer)) (sym e)
+
+-- ---- What is handed back besides: one of document 01's numbers; as many places as were lent; of an accepted frame, the
+-- first N places, channels times block size, each a number of 32 bits.
+
+pub number-listed : (s : List ℕ) (b : List ℤ) → read s b .report .number ≤ 10
+unfolding read
+number-listed s b = Answers.number-listed (record { room = length b }) s
+
+pub length-kept : (s : List ℕ) (b : List ℤ) → length (read s b .buffer) ≡ length b
+unfolding read
+length-kept s b =
+    let set : Settings = record { room = length b } in
+    let front = result set s .front in
+    length-append front (drop (length front) b) ∙ omega (arith, length-drop (length front) b, Answers.front-room set s)
+
+module _ (s : List ℕ) (b : List ℤ) (frame-read : read s b .report .number ≡ 0) where
+  samples-sized : Sized (read s b .report .channels * read s b .report .size) Sample (result (record { room = length b }) s .front)
+  unfolding read sampleCount accepted
+  samples-sized =
+      let set : Settings = record { room = length b } in
+      let r = Answers.zero-read set s frame-read in
+      let w = subst (Meets Listed (Whole set)) (r .ran) (holds-at Listed (Whole set) s (placeOf 0) (frame-holds set)) in
+      subst (λ (q : Result). Sized (q .report .channels * q .report .size) Sample (q .front)) (sym (r .is)) (w .samples)
+
+  pub accepted-count : written s (length b) ≡ read s b .report .channels * read s b .report .size
+  unfolding written
+  accepted-count = samples-sized .count
+
+  pub accepted-samples : Every Sample (take (read s b .report .channels * read s b .report .size) (read s b .buffer))
+  accepted-samples = rw (← accepted-count, written-first s b) (samples-sized .every)

@@ -1,0 +1,144 @@
+-- What holds of every header and frame that the definition reads, and by which numbers it refuses. Assumes nothing.
+use Prim.Native.Nat.{ℕ, zero, suc, _+_, _-_, _*_, _/_, _%_, _^_, _≤_, _<_}
+use native.Mathlib.Nat.{pow-suc, mul-assoc, mul-comm, mul-le-mul, le-trans, lt-of-lt-of-le, lt-of-le-of-lt, mul-le-mul-right, mul-one}
+use native.Mathlib.Omega.{arith}
+use mathlib.Core.Path.{_≡_, refl, ap, sym, _∙_, subst}
+use mathlib.Core.Bool.{Bool, true, false, cond, _||_}
+use mathlib.Core.List.{List, [], _∷_, _++_, map}
+use borrow.Author.Tests.{ltb-true, leb-true, ltb-false, leb-false, eqb-true, eqb-false}
+use lib.Dec.{leb, ltb, eqb}
+use lib.ListN.{length}
+use lib.Pow.{pow-mono, pow-pos}
+use Rattle.reading.specs.Reading.{Ask, done, stop, _>>=_, bits}
+use Rattle.reading.proofs.Holding.{Holds, value, refusal, holds-bind, holds-weaken, holds-bits, holds-zeros, holds-passed, holds-require, holds-if}
+use Rattle.rfc9639.specs.declared.BlockTime.{BlockTime}
+use Rattle.rfc9639.specs.declared.BlockTime.the-variants.{FrameNumber, SampleNumber}
+use Rattle.rfc9639.specs.declared.ChannelAssignment.{ChannelAssignment}
+use Rattle.rfc9639.specs.declared.ChannelAssignment.the-variants.{Independent, LeftSide, SideRight, MidSide}
+use Rattle.rfc9639.specs.declared.FrameHeader.{FrameHeader}
+use Rattle.rfc9639.specs.Number.{followed, numberFrom, codedNumber}
+use Rattle.rfc9639.specs.Header.{assignment, bitDepth, blockSize, rateBits, timeOf, header, channelCount, sampleCount, firstSample}
+
+-- the refusals of document 01 that a frame can have
+abbrev pub Listed : ℕ → Type 0
+Listed n = (3 ≤ n) × (n ≤ 10)
+
+-- ---- the number
+
+follows : (n v : ℕ) → Holds Listed (λ x. x < suc v * 64 ^ n) (followed n v)
+unfolding followed
+follows zero v = value {a = v} (rw mul-one (omega arith))
+follows (suc n) v =
+    holds-bind _ (holds-bits 8)
+    (λ b _. holds-bind _ (holds-require _ 5 (omega arith))
+    (λ _ _. holds-weaken
+    (λ x h. lt-of-lt-of-le h
+    (rw (pow-suc 64 n, mul-comm (64 ^ n) 64, ← mul-assoc (suc v) 64 (64 ^ n)) (mul-le-mul-right (64 ^ n) (omega arith))))
+    (follows n (v * 64 + b % 64))))
+
+pub number-holds : Holds Listed (λ x. x < 2 ^ 36) codedNumber
+unfolding codedNumber numberFrom
+number-holds =
+    holds-bind _ (holds-bits 8)
+    (λ b _. holds-if (ltb b 0x80) (λ e. value (omega (arith, ltb-true b 0x80 e)))
+    (λ _. holds-if (ltb b 0xc0) (λ _. refusal (omega arith))
+    (λ _. holds-if (ltb b 0xe0) (λ _. holds-weaken (λ x h. omega arith) (follows 1 (b % 32)))
+    (λ _. holds-if (ltb b 0xf0) (λ _. holds-weaken (λ x h. omega arith) (follows 2 (b % 16)))
+    (λ _. holds-if (ltb b 0xf8) (λ _. holds-weaken (λ x h. omega arith) (follows 3 (b % 8)))
+    (λ _. holds-if (ltb b 0xfc) (λ _. holds-weaken (λ x h. omega arith) (follows 4 (b % 4)))
+    (λ _. holds-if (ltb b 0xfe) (λ _. holds-weaken (λ x h. omega arith) (follows 5 (b % 2)))
+    (λ _. holds-if (ltb b 0xff) (λ _. holds-weaken (λ x h. omega arith) (follows 6 0)) (λ _. refusal (omega arith))))))))))
+
+-- ---- the header
+
+pub record Sound (h : FrameHeader) : Type 0 where
+  pub some : 1 ≤ h .size
+  pub size : h .size ≤ 65535
+  pub mono : 1 ≤ channelCount (h .channels)
+  pub channels : channelCount (h .channels) ≤ 8
+  pub bits : h .bits ≤ 24
+  pub first : firstSample h < 2 ^ 47
+
+depth-holds : (code : ℕ) → Holds Listed (λ d. d ≤ 24) (bitDepth code)
+unfolding bitDepth
+depth-holds code =
+    holds-if (eqb code 0) (λ _. value {a = 0} (omega arith))
+    (λ _. holds-if (eqb code 1) (λ _. value {a = 8} (omega arith))
+    (λ _. holds-if (eqb code 2) (λ _. value {a = 12} (omega arith))
+    (λ _. holds-if (eqb code 3) (λ _. refusal (omega arith))
+    (λ _. holds-if (eqb code 4) (λ _. value {a = 16} (omega arith))
+    (λ _. holds-if (eqb code 5) (λ _. value {a = 20} (omega arith))
+    (λ _. holds-if (eqb code 6) (λ _. value {a = 24} (omega arith)) (λ _. refusal (omega arith))))))))
+
+size-holds : (code : ℕ) → code < 16 → Holds Listed (λ n. (1 ≤ n) × (n ≤ 65535)) (blockSize code)
+unfolding blockSize
+size-holds code h =
+    holds-if (eqb code 1) (λ _. value {a = 192} (omega arith))
+    (λ _. holds-if (leb code 5)
+    (λ e. value {a = 144 * 2 ^ code} (omega (arith, pow-mono {i = code} {j = 5} (leb-true code 5 e), pow-pos code)))
+    (λ _. holds-if (eqb code 6) (λ _. holds-bind _ (holds-bits 8) (λ v l. value {a = v + 1} (omega arith)))
+    (λ _. holds-if (eqb code 7)
+    (λ _. holds-bind _ (holds-bits 16)
+    (λ v _. holds-bind _ (holds-require (ltb v 65535) 4 (omega arith)) (λ _ e. value {a = v + 1} (omega (arith, ltb-true v 65535 e)))))
+    (λ _. value {a = 2 ^ code} (omega (arith, pow-mono {i = code} {j = 15} (omega arith), pow-pos code))))))
+
+assigned : (code : ℕ) → (1 ≤ channelCount (assignment code)) × (channelCount (assignment code) ≤ 8)
+unfolding assignment channelCount
+assigned code = go (ltb code 8) refl (eqb code 8) (eqb code 9)
+  where
+    go : (a : Bool) → ltb code 8 ≡ a → (b c : Bool)
+        → (1 ≤ channelCount (cond a (Independent (code + 1)) (cond b LeftSide (cond c SideRight MidSide))))
+        × (channelCount (cond a (Independent (code + 1)) (cond b LeftSide (cond c SideRight MidSide))) ≤ 8)
+    go true e b c = let l = ltb-true code 8 e in (omega arith, omega arith)
+    go false e true c = (omega arith, omega arith)
+    go false e false true = (omega arith, omega arith)
+    go false e false false = (omega arith, omega arith)
+
+or-false : (a b : Bool) → (a || b) ≡ true → a ≡ false → b ≡ true
+or-false true b e f = absurd (let z : _≡_ {A = ℕ} 0 1 = cc in omega arith)
+or-false false b e f = e
+
+-- a first sample: a frame number below 2 ^ 31 times the size, or a number below 2 ^ 36
+first-below : (blocking n : ℕ) (h : FrameHeader) → h .time ≡ timeOf blocking n → blocking < 2 → h .size ≤ 65535 → n < 2 ^ 36
+    → (eqb blocking 1 || leb n 2147483647) ≡ true → firstSample h < 2 ^ 47
+unfolding firstSample timeOf
+first-below blocking n h t l s k e = go (eqb blocking 0) refl
+  where
+    go : (b : Bool) → eqb blocking 0 ≡ b → firstSample h < 2 ^ 47
+    go true f =
+        let zero-is = eqb-true blocking 0 f in
+        let few : n ≤ 2147483647 = leb-true n 2147483647 (or-false (eqb blocking 1) (leb n 2147483647) e (rw zero-is)) in
+        rw (t, f) (lt-of-le-of-lt (mul-le-mul {n₂ = 65535} {m₂ = 2147483647} s few) (omega arith))
+    go false f = rw (t, f) (omega arith)
+
+pub header-holds : Holds Listed Sound header
+unfolding header
+header-holds =
+    holds-bind _ (holds-bits 16)
+    (λ sync _. holds-bind _ (holds-require _ 3 (omega arith))
+    (λ _ _. holds-bind _ (holds-bits 4)
+    (λ sizeCode small. holds-bind _ (holds-require _ 4 (omega arith))
+    (λ _ _. holds-bind _ (holds-bits 4)
+    (λ rateCode _. holds-bind _ (holds-require _ 4 (omega arith))
+    (λ _ _. holds-bind _ (holds-bits 4)
+    (λ channelCode _. holds-bind _ (holds-require _ 4 (omega arith))
+    (λ _ _. holds-bind _ (holds-bits 3)
+    (λ bitsCode _. holds-bind _ (depth-holds bitsCode)
+    (λ depth deep. holds-bind _ (holds-bits 1)
+    (λ reserved _. holds-bind _ (holds-require _ 4 (omega arith))
+    (λ _ _. holds-bind _ number-holds
+    (λ number below. holds-bind _ (holds-require _ 5 (omega arith))
+    (λ _ limit. holds-bind _ (size-holds sizeCode small)
+    (λ size fits. holds-bind _ (holds-bits (rateBits rateCode))
+    (λ rate _. holds-bind _ holds-passed
+    (λ before _. holds-bind _ (holds-bits 8)
+    (λ sum _. holds-bind _ (holds-require _ 6 (omega arith))
+    (λ _ _. value
+    (record {
+      some = fits .0;
+      size = fits .1;
+      mono = assigned channelCode .0;
+      channels = assigned channelCode .1;
+      bits = deep;
+      first = first-below (sync % 2) number _ refl (omega arith) (fits .1) below limit;
+    }))))))))))))))))))))

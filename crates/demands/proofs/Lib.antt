@@ -1,0 +1,6 @@
+-- What the definition of a frame guarantees.
+pub mod Frames
+pub mod Runs
+pub mod Samples
+pub mod Answers
+pub mod Demand3
