@@ -1,0 +1,170 @@
+-- The check sums' laws, over the width and the polynomial: the sum of a list joined of two, a sum's bound, and that n bits
+-- at once are a look-up of n bits. Assumes nothing.
+use Prim.Native.Nat.{ℕ, zero, suc, _+_, _*_, _-_, _/_, _%_, _^_, _≤_, _<_}
+use native.Mathlib.Numerals.{one-add}
+use native.Mathlib.Omega.{arith}
+use native.Mathlib.Nat.{mod-lt, mod-eq-of-lt, add-mod, mul-one, mul-assoc, pow-suc}
+use mathlib.Core.Path.{_≡_, refl, ap, ap₂, sym, _∙_}
+use mathlib.Core.Bool.{Bool, true, false}
+use mathlib.Core.List.{List, [], _∷_, _++_}
+use lib.Bits.{bitXor, xor-lt, xor-mod, xor-shr, xor-self, xor-zero-r}
+use lib.Dec.{eqb, lit<}
+use lib.Pow.{pow-pos, field, shr-shr, shl-shr, shr-lt}
+use Rattle.reading.specs.Reading.{if_then_else_}
+use Rattle.reading.specs.Bytes.{bitsOfByte}
+use Rattle.rfc9639.specs.CheckSums.{crcBit, crcBits, crc8, crc16}
+use Rattle.crc.proofs.Xor.{xor-sum, xor-bit, xor-twice, xor-four, xor-back}
+
+-- ---- a list joined of two
+
+pub crc-append : (w poly r : ℕ) (s t : List ℕ) → crcBits w poly r (s ++ t) ≡ crcBits w poly (crcBits w poly r s) t
+unfolding crcBits
+crc-append w poly r [] t = refl
+crc-append w poly r (b ∷ s) t = crc-append w poly (crcBit w poly r b) s t
+
+-- ---- a sum of w bits stays one
+
+module _ (w poly : ℕ) (hp : poly < 2 ^ w) where
+  either : (b : Bool) (a : ℕ) → a < 2 ^ w → (if b then bitXor a poly else a) < 2 ^ w
+  either true a h = xor-lt w a poly h hp
+  either false a h = h
+
+  pub bit-below : (r b : ℕ) → crcBit w poly r b < 2 ^ w
+  unfolding crcBit
+  bit-below r b = either (eqb ((r / 2 ^ (w - 1) + b) % 2) 1) (r * 2 % 2 ^ w) (mod-lt (r * 2) (pow-pos w))
+
+  pub crc-below : (r : ℕ) (s : List ℕ) → r < 2 ^ w → crcBits w poly r s < 2 ^ w
+  unfolding crcBits
+  crc-below r [] h = h
+  crc-below r (b ∷ s) h = crc-below (crcBit w poly r b) s (bit-below r b)
+
+-- ---- one bit more, as a sum
+
+-- the polynomial, or nothing
+unfoldable fed : ℕ → ℕ → ℕ
+fed zero poly = zero
+fed (suc d) poly = poly
+
+fed-if : (d a poly : ℕ) → d < 2 → (if eqb d 1 then bitXor a poly else a) ≡ bitXor a (fed d poly)
+unfolding fed
+fed-if zero a poly h = sym (xor-zero-r a)
+fed-if (suc zero) a poly h = refl
+fed-if (suc (suc d)) a poly h = absurd (omega arith)
+
+fed-xor : (d e poly : ℕ) → d < 2 → e < 2 → fed (bitXor d e) poly ≡ bitXor (fed d poly) (fed e poly)
+unfolding fed
+fed-xor zero e poly h k = refl
+fed-xor (suc zero) zero poly h k = sym (xor-zero-r poly)
+fed-xor (suc zero) (suc zero) poly h k = sym (xor-self poly)
+fed-xor (suc zero) (suc (suc e)) poly h k = absurd (omega arith)
+fed-xor (suc (suc d)) e poly h k = absurd (omega arith)
+
+-- the n low bits of a number, most significant first
+unfoldable pub lowBits : ℕ → ℕ → List ℕ
+lowBits zero x = []
+lowBits (suc n) x = x / 2 ^ n % 2 ∷ lowBits n x
+
+pub byte-bits : (b : ℕ) → bitsOfByte b ≡ lowBits 8 b
+unfolding bitsOfByte lowBits
+byte-bits b = refl
+
+-- a width of v and one more, as every width above 0 is
+module _ (v poly : ℕ) (hp : poly < 2 ^ suc v) where
+  top-below : (r : ℕ) → r < 2 ^ suc v → r / 2 ^ v < 2
+  top-below r h = shr-lt 1 v (rw (one-add v) h)
+
+  bit-is : (r b : ℕ) → r < 2 ^ suc v → b < 2 → crcBit (suc v) poly r b ≡ bitXor (r * 2 % 2 ^ suc v) (fed (bitXor (r / 2 ^ v) b) poly)
+  unfolding crcBit
+  bit-is r b h k =
+      let e : suc v - 1 ≡ v = omega arith in
+      ap (λ (n : ℕ). if eqb ((r / 2 ^ n + b) % 2) 1 then bitXor (r * 2 % 2 ^ suc v) poly else r * 2 % 2 ^ suc v) e
+      ∙ fed-if ((r / 2 ^ v + b) % 2) (r * 2 % 2 ^ suc v) poly (omega arith)
+      ∙ ap (λ (d : ℕ). bitXor (r * 2 % 2 ^ suc v) (fed d poly)) (sym (xor-sum (r / 2 ^ v) b (top-below r h) k))
+
+  -- ---- two inputs added have their sums added
+
+  bit-xor : (r q b c : ℕ) → r < 2 ^ suc v → q < 2 ^ suc v → b < 2 → c < 2
+      → crcBit (suc v) poly (bitXor r q) (bitXor b c) ≡ bitXor (crcBit (suc v) poly r b) (crcBit (suc v) poly q c)
+  bit-xor r q b c hr hq hb hc =
+      bit-is (bitXor r q) (bitXor b c) (xor-lt (suc v) r q hr hq) (xor-lt 1 b c hb hc)
+      ∙ ap₂ bitXor (ap (λ (x : ℕ). x % 2 ^ suc v) (xor-twice r q) ∙ xor-mod (r * 2) (q * 2) (suc v))
+      (ap (λ (x : ℕ). fed x poly) (ap (λ (x : ℕ). bitXor x (bitXor b c)) (xor-shr r q v) ∙ xor-four (r / 2 ^ v) (q / 2 ^ v) b c)
+      ∙ fed-xor (bitXor (r / 2 ^ v) b) (bitXor (q / 2 ^ v) c) poly (xor-lt 1 (r / 2 ^ v) b (top-below r hr) hb)
+      (xor-lt 1 (q / 2 ^ v) c (top-below q hq) hc))
+      ∙ xor-four (r * 2 % 2 ^ suc v) (q * 2 % 2 ^ suc v) (fed (bitXor (r / 2 ^ v) b) poly) (fed (bitXor (q / 2 ^ v) c) poly)
+      ∙ sym (ap₂ bitXor (bit-is r b hr hb) (bit-is q c hq hc))
+
+  crc-xor : (n r q x y : ℕ) → r < 2 ^ suc v → q < 2 ^ suc v
+      → crcBits (suc v) poly (bitXor r q) (lowBits n (bitXor x y)) ≡ bitXor (crcBits (suc v) poly r (lowBits n x)) (crcBits (suc v) poly q (lowBits n y))
+  unfolding crcBits lowBits
+  crc-xor zero r q x y hr hq = refl
+  crc-xor (suc n) r q x y hr hq =
+      ap (λ (s : ℕ). crcBits (suc v) poly s (lowBits n (bitXor x y)))
+      (ap (crcBit (suc v) poly (bitXor r q)) (xor-bit x y n) ∙ bit-xor r q (x / 2 ^ n % 2) (y / 2 ^ n % 2) hr hq (omega arith) (omega arith))
+      ∙ crc-xor n (crcBit (suc v) poly r (x / 2 ^ n % 2)) (crcBit (suc v) poly q (y / 2 ^ n % 2)) x y (bit-below (suc v) poly hp r (x / 2 ^ n % 2))
+      (bit-below (suc v) poly hp q (y / 2 ^ n % 2))
+
+  -- ---- a sum's own upper bits shift it, and feed nothing
+
+  bit-own : (r : ℕ) → r < 2 ^ suc v → crcBit (suc v) poly r (r / 2 ^ v) ≡ r * 2 % 2 ^ suc v
+  unfolding fed
+  bit-own r h =
+      bit-is r (r / 2 ^ v) h (top-below r h) ∙ ap (λ (d : ℕ). bitXor (r * 2 % 2 ^ suc v) (fed d poly)) (xor-self (r / 2 ^ v)) ∙ xor-zero-r (r * 2 % 2 ^ suc v)
+
+  -- r after k shifts: its top bit, and one shift more
+  shifted-top : (r k j : ℕ) → v ≡ k + j → r * 2 ^ k % 2 ^ suc v / 2 ^ v ≡ r / 2 ^ j % 2
+  shifted-top r k j e =
+      ap (λ (n : ℕ). r * 2 ^ k % 2 ^ n / 2 ^ v) (sym (one-add v)) ∙ field (r * 2 ^ k) 1 v
+      ∙ ap (λ (x : ℕ). x % 2) (ap (λ (n : ℕ). r * 2 ^ k / 2 ^ n) e ∙ sym (shr-shr (r * 2 ^ k) k j) ∙ ap (λ (x : ℕ). x / 2 ^ j) (shl-shr r k))
+
+  shifted-on : (r k : ℕ) → r * 2 ^ k % 2 ^ suc v * 2 % 2 ^ suc v ≡ r * 2 ^ suc k % 2 ^ suc v
+  shifted-on r k =
+      let x = r * 2 ^ k in
+      let m = 2 ^ suc v in
+      let a : x % m * 2 ≡ x % m + x % m = omega arith in
+      let b : x + x ≡ x * 2 = omega arith in
+      ap (λ (y : ℕ). y % m) a ∙ sym (add-mod x x m) ∙ ap (λ (y : ℕ). y % m) (b ∙ mul-assoc r (2 ^ k) 2 ∙ ap (λ (y : ℕ). r * y) (sym (pow-suc 2 k)))
+
+  crc-own : (n k m r : ℕ) → suc v ≡ k + (m + n)
+      → crcBits (suc v) poly (r * 2 ^ k % 2 ^ suc v) (lowBits n (r / 2 ^ m)) ≡ r * 2 ^ (k + n) % 2 ^ suc v
+  unfolding crcBits lowBits
+  crc-own zero k m r e = ap (λ (n : ℕ). r * 2 ^ n % 2 ^ suc v) (omega arith)
+  crc-own (suc n) k m r e =
+      let x = r * 2 ^ k % 2 ^ suc v in
+      ap (λ (b : ℕ). crcBits (suc v) poly (crcBit (suc v) poly x b) (lowBits n (r / 2 ^ m)))
+      (ap (λ (y : ℕ). y % 2) (shr-shr r m n) ∙ sym (shifted-top r k (m + n) (omega arith)))
+      ∙ ap (λ (y : ℕ). crcBits (suc v) poly y (lowBits n (r / 2 ^ m))) (bit-own x (mod-lt (r * 2 ^ k) (pow-pos (suc v))) ∙ shifted-on r k)
+      ∙ crc-own n (suc k) m r (omega arith) ∙ ap (λ (n : ℕ). r * 2 ^ n % 2 ^ suc v) (omega arith)
+
+  looked-up : (n r x : ℕ) → n ≤ suc v → r < 2 ^ suc v
+      → crcBits (suc v) poly r (lowBits n x) ≡ bitXor (crcBits (suc v) poly 0 (lowBits n (bitXor (r / 2 ^ (suc v - n)) x))) (r * 2 ^ n % 2 ^ suc v)
+  looked-up n r x h hr =
+      let t = r / 2 ^ (suc v - n) in
+      ap (λ (y : ℕ). crcBits (suc v) poly r (lowBits n y)) (sym (xor-back t x)) ∙ crc-xor n 0 r (bitXor t x) t (pow-pos (suc v)) hr
+      ∙ ap (bitXor (crcBits (suc v) poly 0 (lowBits n (bitXor t x))))
+      (ap (λ (y : ℕ). crcBits (suc v) poly y (lowBits n t)) (sym (ap (λ (y : ℕ). y % 2 ^ suc v) (mul-one r) ∙ mod-eq-of-lt hr))
+      ∙ crc-own n 0 (suc v - n) r (omega arith) ∙ ap (λ (k : ℕ). r * 2 ^ k % 2 ^ suc v) (omega arith))
+
+-- ---- n bits at once: the sum of the n upper bits of what was and the new ones, from nothing, and the lower bits moved up
+
+pub crc-bits : (w poly n r x : ℕ) → poly < 2 ^ w → n ≤ w → r < 2 ^ w
+    → crcBits w poly r (lowBits n x) ≡ bitXor (crcBits w poly 0 (lowBits n (bitXor (r / 2 ^ (w - n)) x))) (r * 2 ^ n % 2 ^ w)
+unfolding crcBits lowBits
+crc-bits zero poly zero r x hp h hr = omega arith
+crc-bits zero poly (suc n) r x hp h hr = absurd (omega arith)
+crc-bits (suc v) poly n r x hp h hr = looked-up v poly hp n r x h hr
+
+pub crc-byte : (w poly r b : ℕ) → poly < 2 ^ w → 8 ≤ w → r < 2 ^ w
+    → crcBits w poly r (bitsOfByte b) ≡ bitXor (crcBits w poly 0 (bitsOfByte (bitXor (r / 2 ^ (w - 8)) b))) (r * 256 % 2 ^ w)
+unfolding bitsOfByte lowBits
+crc-byte w poly r b hp h hr = crc-bits w poly 8 r b hp h hr
+
+-- ---- the two sums of the format
+
+pub crc8-below : (s : List ℕ) → crc8 s < 256
+unfolding crc8
+crc8-below s = crc-below 8 0x07 (lit< tt) 0 s (lit< tt)
+
+pub crc16-below : (s : List ℕ) → crc16 s < 65536
+unfolding crc16
+crc16-below s = crc-below 16 0x8005 (lit< tt) 0 s (lit< tt)

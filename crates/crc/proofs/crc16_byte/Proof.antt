@@ -1,0 +1,23 @@
+-- `crc::crc16_byte` meets its contract: a byte more is a look-up. Assumes nothing.
+use native.Mathlib.Omega.{arith}
+use lib.Bits.{xor-lt}
+use lib.Dec.{lit<}
+use Prim.Native.Nat.{_/_}
+use Rattle.crc.proofs.Entries.{look-up}
+use Rattle.crc.proofs.crc16_byte.Statement.{statement}
+use Rattle.crc.proofs.crc16_byte.Tie as tie
+
+element-copy-out-result : tie.Need-element-copy-out-result
+element-copy-out-result c = xor-lt 8 (c .args .sum / 256) (c .args .byte) (omega arith) (omega arith)
+
+cast-result : tie.Need-cast-result
+cast-result c = let h = element-copy-out-result c in omega arith
+
+mul-result : tie.Need-mul-result
+mul-result c = let h = element-copy-out-result c in omega arith
+
+returns : tie.Need-returns
+returns c = look-up 16 0x8005 _ (c .before .pre) (c .before .args .sum) (c .before .args .byte) (lit< tt) (omega arith) (omega arith) (omega arith)
+
+pub crc16-byte-spec : {M : Type 1} → statement M
+crc16-byte-spec = tie.close (tie.spec cast-result mul-result element-copy-out-result returns)
