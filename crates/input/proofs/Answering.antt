@@ -1,0 +1,31 @@
+-- What a question gets at a place, with a function over the number: what the loops end with. Assumes nothing.
+use Prim.Native.Nat.{ℕ}
+use mathlib.Core.Path.{_≡_, refl, ap}
+use mathlib.Core.Bool.{Bool, false}
+use mathlib.Core.List.{List}
+use Rattle.reading.specs.declared.Place.{Place}
+use Rattle.reading.specs.Reading.{Question, Ask, ask, done, Answer, found, cut, answer}
+use Rattle.reading.specs.Bytes.{bitsOfBytes}
+use Rattle.reading.specs.Places.{At, gotAt, refusedAt, shortAt, runAt, inside, position, placeOf}
+use Rattle.reading.proofs.Running.{In, runAt-ask, runAt-out, ofAnswer}
+use Rattle.input.specs.Answers.{mapAt}
+
+module _ (f : ℕ → ℕ) where
+  pub told : Answer → At ℕ
+  told x = mapAt f (ofAnswer x)
+
+  pub told-found : (v j : ℕ) → told (found v j) ≡ gotAt (f v) (placeOf j)
+  unfolding told mapAt ofAnswer
+  told-found v j = refl
+
+  pub told-cut : told cut ≡ shortAt
+  unfolding told mapAt ofAnswer
+  told-cut = refl
+
+  pub ask-in : (q : Question) {s : List ℕ} {at : Place} → In s at → mapAt f (runAt (ask q done) s at) ≡ told (answer q (bitsOfBytes s) (position at))
+  unfolding told
+  ask-in q h = ap (mapAt f) (runAt-ask q h)
+
+  pub ask-out : (q : Ask ℕ) (s : List ℕ) (at : Place) → inside s at ≡ false → mapAt f (runAt q s at) ≡ shortAt
+  unfolding mapAt
+  ask-out q s at e = ap (mapAt f) (runAt-out q s at e)

@@ -1,0 +1,28 @@
+-- What an answer of bit reading means, in the words of the definition; and what a word of 64 bits keeps of the number
+-- that was read.
+use Prim.Native.Nat.{ℕ, _+_, _%_, _^_}
+use lib.Dec.{ltb}
+use Rattle.reading.specs.Reading.{if_then_else_}
+use Rattle.reading.specs.Places.{At, gotAt, refusedAt, shortAt}
+use Rattle.input.specs.declared.Bits.{Bits}
+use Rattle.input.specs.declared.Bits.the-variants.{Value, Short}
+
+abbrev pub means : Bits → At ℕ
+means (Value v p) = gotAt v p
+means Short = shortAt
+
+unfoldable pub mapAt : {A B : Type 0} → (A → B) → At A → At B
+mapAt f (gotAt a p) = gotAt (f a) p
+mapAt f (refusedAt n) = refusedAt n
+mapAt f shortAt = shortAt
+
+-- of more than 64 bits the last 64
+unfoldable pub low64 : At ℕ → At ℕ
+low64 x = mapAt (λ v. v % 2 ^ 64) x
+
+-- The zeros themselves where there are fewer than 2 ^ 32; else their low 32 bits, and a bit above them that says so.
+unfoldable pub count : ℕ → ℕ
+count z = if ltb z (2 ^ 32) then z else 2 ^ 32 + z % 2 ^ 32
+
+unfoldable pub counted : At ℕ → At ℕ
+counted x = mapAt count x

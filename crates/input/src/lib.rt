@@ -1,0 +1,144 @@
+// Reading bits of the input at a place: claxon's input.rs with the slice and a place by value for its stream. Each
+// function answers on every argument. It promises what the definition's questions get of these bytes from that place
+// (crates/reading), and nothing of how. Bits are taken most significant first (RFC 9639 section 5).
+use reading::Place;
+ghost use mathlib.Core.Path.{_≡_};
+ghost use Prim.Native.Nat.{_+_, _-_, _*_, _/_, _%_, _^_, _≤_, _<_};
+ghost use Rattle.reading.specs.Reading.{bits, zeros};
+ghost use Rattle.reading.specs.Places.{inside, position, placeOf, runAt};
+ghost use Rattle.input.specs.Answers.{means, low64, counted};
+
+// What was read and the place behind it, or that the input ends first.
+pub enum Bits {
+    Value(u64, Place),
+    Short,
+}
+
+// Whether this is a place of the input, or right behind it. The comparison of positions goes by parts: eight times a
+// length may not fit a usize.
+pub fn is_inside(s: &[u8], at: Place) -> bool
+    ensures { λ r. ⌜ r ≡ inside (now (s .entry)) at ⌝ }
+{
+    let byte = at.byte;
+    let bit = at.bit;
+    if 8 <= bit {
+        return false;
+    }
+    if byte < s.len() {
+        return true;
+    }
+    if s.len() < byte {
+        return false;
+    }
+    if 0 < bit {
+        return false;
+    }
+    true
+}
+
+// One bit, which lies in one byte.
+pub fn read_bit(s: &[u8], at: Place) -> Bits
+    ensures { λ r. ⌜ means r ≡ runAt (bits 1) (now (s .entry)) at ⌝ }
+{
+    if !is_inside(s, at) {
+        return Bits::Short;
+    }
+    let byte = at.byte;
+    let bit = at.bit;
+    if s.len() <= byte {
+        return Bits::Short;
+    }
+    Bits::Value(chunk(s[byte], bit, 1), skip(at, 1))
+}
+
+// The next n bits as a number, of more than 64 bits the last 64. It goes by bytes: each turn takes what is wanted of one.
+pub fn read_bits(s: &[u8], at: Place, n: u32) -> Bits
+    ensures { λ r. ⌜ means r ≡ low64 (runAt (bits n) (now (s .entry)) at) ⌝ }
+{
+    if !is_inside(s, at) {
+        return Bits::Short;
+    }
+    let mut p = at;
+    let mut left = n as usize;
+    let mut acc: u64 = 0;
+    while 0 < left {
+        let byte = p.byte;
+        let bit = p.bit;
+        if s.len() <= byte {
+            return Bits::Short;
+        }
+        let m = lesser(8 - bit, left);
+        acc = (acc << m) + chunk(s[byte], bit, m);
+        p = skip(p, m);
+        left -= m;
+    }
+    Bits::Value(acc, p)
+}
+
+// How many zeros stand before the next one, which is passed too. From 2 ^ 32 zeros on it is their low 32 bits, and a
+// bit above them: a Rice quotient wants the low bits only, the wasted bits want to know that there were too many.
+pub fn read_unary(s: &[u8], at: Place) -> Bits
+    ensures { λ r. ⌜ means r ≡ counted (runAt zeros (now (s .entry)) at) ⌝ }
+{
+    if !is_inside(s, at) {
+        return Bits::Short;
+    }
+    let mut p = at;
+    let mut count: u64 = 0;
+    loop {
+        let byte = p.byte;
+        let bit = p.bit;
+        if s.len() <= byte {
+            return Bits::Short;
+        }
+        let b = chunk(s[byte], bit, 1);
+        p = skip(p, 1);
+        if b == 1 {
+            return Bits::Value(count, p);
+        }
+        count = one_more(count);
+    }
+}
+
+// The count of one zero more: it comes round to 2 ^ 32, so that it never overflows and never loses the bit that says
+// so many.
+fn one_more(c: u64) -> u64
+    requires { ⌜ c < 2 ^ 33 ⌝ }
+    ensures { λ r. ⌜ r ≡ c + 1 - (c + 1) / 2 ^ 33 * 2 ^ 32 ⌝ }
+{
+    if c == 0x1_ffff_ffff {
+        0x1_0000_0000
+    } else {
+        c + 1
+    }
+}
+
+// The m bits of a byte from this bit on.
+fn chunk(b: u8, bit: usize, m: usize) -> u64
+    requires { ⌜ bit + m ≤ 8 ⌝ }
+    ensures { λ r. ⌜ r ≡ b / 2 ^ (8 - (bit + m)) % 2 ^ m ⌝ }
+{
+    ((b as u64) >> (8 - (bit + m))) % (1u64 << m)
+}
+
+// The place m bits on, in the same byte or at the start of the next.
+fn skip(at: Place, m: usize) -> Place
+    requires { ⌜ (at .bit + m ≤ 8) × (at .byte < 2 ^ 63) ⌝ }
+    ensures { λ r. ⌜ r ≡ placeOf (position at + m) ⌝ }
+{
+    let byte = at.byte;
+    let bit = at.bit;
+    if bit + m == 8 {
+        return Place {
+            byte: byte + 1,
+            bit: 0,
+        };
+    }
+    Place { byte, bit: bit + m }
+}
+
+fn lesser(a: usize, b: usize) -> usize
+    ensures { λ r. ⌜ (r ≤ a) × (r ≤ b) × ((0 < a) → (0 < b) → 0 < r) ⌝ }
+{
+    if a < b { a } else { b }
+}
