@@ -1,4 +1,5 @@
 -- The definition computes: the examples that document 01 marks, published frames, and the order of the checks.
+pub mod Widths
 pub mod Computing
 pub mod Marked
 pub mod Published

@@ -1,0 +1,2 @@
+-- One outcome, and different numbers for different refusals.
+pub mod Outcome

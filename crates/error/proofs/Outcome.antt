@@ -1,0 +1,37 @@
+-- Any two outcomes that meet the contract are equal, and no two refusals have one number. Assumes nothing.
+use Prim.Native.Nat.{ℕ, _-_}
+use mathlib.Core.Path.{_≡_, refl, ap, sym, _∙_}
+use mathlib.Core.List.{List, [], _∷_}
+use lib.ListN.{getD}
+use Rattle.error.specs.declared.Refusal.{Refusal}
+use Rattle.error.specs.declared.Refusal.the-variants.{NothingLeft, CutShort, NotSync, Reserved, BadNumber, HeaderSum, NoRoom, NotDone, BadShape, FrameSum, BadArgument, SampleRange, OutputRoom}
+use Rattle.error.specs.Numbers.{numberOf}
+
+pub number-of-one : {n n′ : ℕ} (r : Refusal) → n ≡ numberOf r → n′ ≡ numberOf r → n ≡ n′
+number-of-one r p q = p ∙ sym q
+
+every : List Refusal
+every = NothingLeft ∷ CutShort ∷ NotSync ∷ Reserved ∷ BadNumber ∷ HeaderSum ∷ NoRoom ∷ NotDone ∷ BadShape ∷ FrameSum ∷ BadArgument ∷ SampleRange ∷ OutputRoom ∷ []
+
+-- the refusal that a number names
+named : ℕ → Refusal
+named n = getD every (n - 1) NothingLeft
+
+names : (r : Refusal) → named (numberOf r) ≡ r
+unfolding named every
+names NothingLeft = refl
+names CutShort = refl
+names NotSync = refl
+names Reserved = refl
+names BadNumber = refl
+names HeaderSum = refl
+names NoRoom = refl
+names NotDone = refl
+names BadShape = refl
+names FrameSum = refl
+names BadArgument = refl
+names SampleRange = refl
+names OutputRoom = refl
+
+pub number-tells : (r r′ : Refusal) → numberOf r ≡ numberOf r′ → r ≡ r′
+number-tells r r′ e = sym (names r) ∙ ap named e ∙ names r′

@@ -1,0 +1,50 @@
+-- Sign extension at each width. Assumes nothing.
+use Prim.Native.Nat.{ℕ, _*_, _%_, _^_, _+_, _≤_, _<_}
+use native.Mathlib.Nat.{mod-eq-of-lt, mod-one}
+use native.Mathlib.Omega.{arith}
+use mathlib.Core.Path.{_≡_, refl, ap, sym, _∙_}
+use mathlib.Core.Bool.{Bool, true, false, cond}
+use borrow.Author.Tests.{leb-true, leb-false, le-leb, lt-leb}
+use lib.Dec.{leb}
+use lib.IntN.{pos}
+use Rattle.rfc9639.specs.Integers.{signed, low, wrapped, shiftDown}
+use Rattle.rfc9639.proofs.Widths.{Fits, wrapped-fits}
+use Rattle.number.specs.Extend.{signExtend}
+use Rattle.number.proofs.Machine.{up-and-down}
+
+module _ (w v : ℕ) where
+  pub extend-low : w ≤ 63 → signExtend w v ≡ signed w (v % 2 ^ w)
+  unfolding signExtend wrapped low
+  extend-low h = rw (le-leb w 63 h)
+
+  pub extend-all : 64 ≤ w → v < 2 ^ 64 → signExtend w v ≡ signed 64 v
+  unfolding signExtend wrapped low
+  extend-all h l = rw (lt-leb w 63 h) (ap (signed 64) (mod-eq-of-lt l))
+
+  -- a number of w bits is extended to what it spells
+  pub extend-signed : w ≤ 64 → v < 2 ^ w → signExtend w v ≡ signed w v
+  extend-signed h l = go (leb w 63) refl
+    where
+      go : (t : Bool) → leb w 63 ≡ t → signExtend w v ≡ signed w v
+      go true e = extend-low (leb-true w 63 e) ∙ ap (signed w) (mod-eq-of-lt l)
+      go false e =
+          let f : w ≡ 64 = omega (arith, leb-false w 63 e) in
+          extend-all (omega arith) (rw f at l) ∙ ap (λ n. signed n v) (sym f)
+
+  -- whatever the bits above are, the answer fits the width
+  pub extend-fits : w ≤ 64 → Fits w (signExtend w v)
+  unfolding signExtend
+  extend-fits h = go (leb w 63) refl
+    where
+      go : (t : Bool) → leb w 63 ≡ t → Fits w (cond t (wrapped w (pos v)) (wrapped 64 (pos v)))
+      go true e = wrapped-fits w (pos v)
+      go false e = let f : 64 ≡ w = omega (arith, leb-false w 63 e) in rw (← f) (wrapped-fits 64 (pos v))
+
+-- no bits spell nothing
+pub extend-none : (v : ℕ) → signExtend 0 v ≡ pos 0
+unfolding signed
+extend-none v = extend-low 0 v (omega arith) ∙ ap (signed 0) (mod-one v)
+
+-- what both shifts leave
+pub extend-shifts : (w k v : ℕ) → w ≤ 63 → w + k ≡ 64 → shiftDown k (signed 64 ((v * 2 ^ k) % 2 ^ 64)) ≡ signExtend w v
+extend-shifts w k v h e = up-and-down w k 64 v e ∙ sym (extend-low w v h)

@@ -1,0 +1,128 @@
+-- Sizes of sums and products in ℤ, and the sum of at most 32 products, which is exact at 64 bits: coefficients of 16 bits,
+-- samples of 33 (RFC 9639 section 9.2.6; a side channel is one bit wider than 32). Assumes nothing.
+use Prim.Native.Nat.{ℕ, zero, suc, _+_, _-_, _*_, _^_, _≤_, _<_}
+use native.Mathlib.Nat.{le-refl, le-of-lt, lt-of-le-of-lt, mul-le-mul, div-le-self}
+use native.Mathlib.Numerals.{add-one}
+use native.Mathlib.Omega.{arith}
+use mathlib.Core.Path.{_≡_, refl, ap, ap₂, sym, _∙_, subst}
+use mathlib.Core.Bool.{Bool, true, false, cond}
+use mathlib.Core.List.{List, [], _∷_}
+use borrow.Author.Tests.{ltb-true}
+use lib.Dec.{ltb}
+use lib.IntN.{ℤ, pos, negsuc, natAbs, negℤ, subℕ, _+ℤ_, _*ℤ_}
+use lib.ListN.{length, getD, drop}
+use lib.Seq.{drop-cons, drop-length}
+use lib.Signed.{mag}
+use mir.Syntax.{w32, w64}
+use mir.Val.{SFits, toZ, ofZ}
+use mir.Facts.{toZ-ofZ}
+use Rattle.rfc9639.specs.Integers.{shiftDown}
+use Rattle.rfc9639.specs.Prediction.{dot}
+use Rattle.rfc9639.proofs.Widths.{Fits, of-sfits, fits-mono}
+use Rattle.number.specs.Small.{Small}
+
+-- ---- a number's size
+
+mag-abs : (z : ℤ) → mag z ≤ natAbs z
+mag-abs (pos n) = le-refl n
+mag-abs (negsuc n) = omega arith
+
+pub fits-of-abs : (w : ℕ) (z : ℤ) → natAbs z < 2 ^ (w - 1) → Fits w z
+fits-of-abs w z h = record { fits = lt-of-le-of-lt (mag-abs z) h }
+
+pub sfits-of-abs : (z : ℤ) → natAbs z < 2 ^ 63 → SFits w64 z
+sfits-of-abs z h = record { sfits = lt-of-le-of-lt (mag-abs z) h }
+
+pub abs-of-fits : {w : ℕ} {z : ℤ} → Fits w z → natAbs z ≤ 2 ^ (w - 1)
+abs-of-fits {w} {z = pos n} h = le-of-lt (h .fits)
+abs-of-fits {w} {z = negsuc n} h = h .fits
+
+abs-sub : (a b : ℕ) → natAbs (subℕ a b) ≤ a + b
+abs-sub a b = go (ltb a b) refl
+  where
+    go : (t : Bool) → ltb a b ≡ t → natAbs (cond t (negsuc (b - suc a)) (pos (a - b))) ≤ a + b
+    go true e = let h = ltb-true a b e in omega arith
+    go false e = omega arith
+
+pub abs-add : (a b : ℤ) → natAbs (a +ℤ b) ≤ natAbs a + natAbs b
+abs-add (pos a) (pos b) = le-refl (a + b)
+abs-add (pos a) (negsuc b) = abs-sub a (suc b)
+abs-add (negsuc a) (pos b) = omega (arith, abs-sub b (suc a))
+abs-add (negsuc a) (negsuc b) = omega arith
+
+pub abs-neg : (z : ℤ) → natAbs (negℤ z) ≡ natAbs z
+abs-neg (pos zero) = refl
+abs-neg (pos (suc n)) = refl
+abs-neg (negsuc n) = refl
+
+pub abs-mul : (a b : ℤ) → natAbs (a *ℤ b) ≡ natAbs a * natAbs b
+abs-mul (pos a) (pos b) = refl
+abs-mul (pos a) (negsuc b) = abs-neg (pos (a * suc b))
+abs-mul (negsuc a) (pos b) = abs-neg (pos (suc a * b))
+abs-mul (negsuc a) (negsuc b) = refl
+
+pub abs-shiftDown : (k : ℕ) (z : ℤ) → natAbs (shiftDown k z) ≤ natAbs z
+unfolding shiftDown
+abs-shiftDown k (pos n) = div-le-self n (2 ^ k)
+abs-shiftDown k (negsuc n) = omega (arith, div-le-self n (2 ^ k))
+
+pub add-fits : (a b : ℤ) → natAbs a < 2 ^ 62 → natAbs b ≤ 2 ^ 62 → SFits w64 (a +ℤ b)
+add-fits a b h k = sfits-of-abs (a +ℤ b) (omega (arith, abs-add a b))
+
+-- ---- one product, and a sum with it. A sample is of at most 33 bits.
+
+module _ (c x : ℤ) (h : natAbs c < 2 ^ 15) (l : Fits 33 x) where
+  pub abs-product : natAbs (c *ℤ x) ≤ 2 ^ 47
+  abs-product = subst (λ n. n ≤ 2 ^ 47) (sym (abs-mul c x)) (mul-le-mul {n₂ = 2 ^ 15} {m₂ = 2 ^ 32} (le-of-lt h) (abs-of-fits l))
+
+  pub product-fits : SFits w64 (c *ℤ x)
+  product-fits = sfits-of-abs (c *ℤ x) (omega (arith, abs-product))
+
+  pub abs-mul-add : (a : ℤ) → natAbs (a +ℤ c *ℤ x) ≤ natAbs a + 2 ^ 47
+  abs-mul-add a = omega (arith, abs-add a (c *ℤ x), abs-product)
+
+  pub mul-add-fits : (a : ℤ) → natAbs a < 2 ^ 62 → SFits w64 (a +ℤ c *ℤ x)
+  mul-add-fits a k = sfits-of-abs (a +ℤ c *ℤ x) (omega (arith, abs-mul-add a))
+
+-- an i32 is of at most 33 bits
+pub sample-fits : {z : ℤ} → SFits w32 z → Fits 33 z
+sample-fits f = fits-mono {w = 32} {w′ = 33} (omega arith) (of-sfits f)
+
+-- ---- a loop over the products. A signed local is its bits.
+
+small-at : (b : ℕ) (l : List ℤ) (i : ℕ) → i < length l → Small b l → natAbs (getD l i (pos 0)) < b
+small-at b [] i h s = absurd (omega arith)
+small-at b (z ∷ l) zero h s = s .0
+small-at b (z ∷ l) (suc i) h s = small-at b l i (omega arith) (s .1)
+
+-- i products are added up in acc
+pub record Dotted (cs xs : List ℤ) (acc i : ℕ) : Type 0 where
+  pub within : i ≤ length cs
+  pub bound : natAbs (toZ w64 acc) ≤ i * 2 ^ 47
+  pub same : dot (pos 0) cs xs ≡ dot (toZ w64 acc) (drop i cs) (drop i xs)
+
+pub begin : (cs xs : List ℤ) → Dotted cs xs 0 0
+begin cs xs = record { within = omega arith; bound = omega arith; same = refl }
+
+module _ {cs xs : List ℤ} {acc i : ℕ} (inv : Dotted cs xs acc i) (few : length cs ≤ 32) where
+  pub room : natAbs (toZ w64 acc) < 2 ^ 62
+  room = omega (arith, inv .bound, inv .within)
+
+  module _ (long : length cs ≤ length xs) (small : Small (2 ^ 15) cs) (l : i < length cs) where
+    pub coefficient : natAbs (getD cs i (pos 0)) < 2 ^ 15
+    coefficient = small-at (2 ^ 15) cs i l small
+
+    pub step : (r : ℤ) → r ≡ toZ w64 acc +ℤ getD cs i (pos 0) *ℤ getD xs i (pos 0) → Fits 33 (getD xs i (pos 0)) → SFits w64 r → Dotted cs xs (ofZ w64 r) (i + 1)
+    unfolding dot
+    step r e f g = record {
+      within = omega arith;
+      bound = rw (toZ-ofZ g, e) (omega (arith, abs-mul-add (getD cs i (pos 0)) (getD xs i (pos 0)) coefficient f (toZ w64 acc), inv .bound));
+      same =
+          inv .same ∙ ap₂ (dot (toZ w64 acc)) (drop-cons cs i (pos 0) l) (drop-cons xs i (pos 0) (omega arith))
+          ∙ ap (λ a. dot a (drop (suc i) cs) (drop (suc i) xs)) (sym e ∙ sym (toZ-ofZ g))
+          ∙ ap (λ n. dot (toZ w64 (ofZ w64 r)) (drop n cs) (drop n xs)) (sym (add-one i));
+    }
+
+  pub end : length cs ≤ i → toZ w64 acc ≡ dot (pos 0) cs xs
+  unfolding dot
+  end h = sym (inv .same ∙ ap (λ (l : List ℤ). dot (toZ w64 acc) l (drop i xs)) (ap (λ n. drop n cs) (let e : i ≡ length cs = omega (arith, inv .within) in e) ∙ drop-length cs))
