@@ -25,20 +25,12 @@ use Rattle.rfc9639.specs.Subframe.{subframeType, wastedBits, subframeHeader, or
 use Rattle.rfc9639.specs.Stereo.{rightOf, leftOf, doubled, leftOfMid, rightOfMid, pairwise, joined}
 use Rattle.rfc9639.specs.Frame.{Settings, opening, widths, footer, body, Frame, frame}
 use Rattle.rfc9639.specs.Read.{begun}
+use Rattle.rfc9639.proofs.Widths.{Fits, wrapped-fits, shiftDown-fits, shiftUp-fits}
 use Rattle.demands.proofs.Frames.{Listed, Sound, header-holds}
 
 -- a number of 32 bits
 abbrev pub Sample : ℤ → Type 0
-Sample z = Unit {0}
-
-wrapped-fits : (w : ℕ) (z : ℤ) → 1 ≤ w → Sample (wrapped w z)
-wrapped-fits w z h = tt
-
-shiftUp-fits : (k : ℕ) (z : ℤ) → Sample (shiftUp k z)
-shiftUp-fits w z = tt
-
-shiftDown-fits : (w k : ℕ) (z : ℤ) → Sample z → Sample (shiftDown k z)
-shiftDown-fits w k z h = tt
+Sample z = Fits 32 z
 
 -- nothing is said of a value
 abbrev Some : {A : Type 0} → A → Type 0
@@ -194,19 +186,19 @@ both n xs ys a b = record { count = length-append xs ys ∙ omega (arith, a .cou
 
 rightOf-fits : (x y : ℤ) → Sample (rightOf x y)
 unfolding rightOf
-rightOf-fits x y = wrapped-fits 32 (x -ℤ y) (omega arith)
+rightOf-fits x y = wrapped-fits 32 (x -ℤ y)
 
 leftOf-fits : (x y : ℤ) → Sample (leftOf x y)
 unfolding leftOf
-leftOf-fits x y = wrapped-fits 32 (x +ℤ y) (omega arith)
+leftOf-fits x y = wrapped-fits 32 (x +ℤ y)
 
 leftOfMid-fits : (x y : ℤ) → Sample (leftOfMid x y)
 unfolding leftOfMid
-leftOfMid-fits x y = shiftDown-fits 32 1 (wrapped 32 (doubled x y +ℤ y)) (wrapped-fits 32 (doubled x y +ℤ y) (omega arith))
+leftOfMid-fits x y = shiftDown-fits (wrapped-fits 32 (doubled x y +ℤ y)) 1
 
 rightOfMid-fits : (x y : ℤ) → Sample (rightOfMid x y)
 unfolding rightOfMid
-rightOfMid-fits x y = shiftDown-fits 32 1 (wrapped 32 (doubled x y -ℤ y)) (wrapped-fits 32 (doubled x y -ℤ y) (omega arith))
+rightOfMid-fits x y = shiftDown-fits (wrapped-fits 32 (doubled x y -ℤ y)) 1
 
 joined-sized : (c : ChannelAssignment) (n : ℕ) (xs : List ℤ) → Sized (channelCount c * n) Sample xs → Sized (channelCount c * n) Sample (joined c n xs)
 unfolding joined channelCount
