@@ -60,22 +60,28 @@ module _ (set : Settings) (s : List ℕ) where
     pub aligned : end .bit ≡ 0
     pub is : r ≡ record { report = accepted (whole .header) end; front = whole .samples }
 
+  had-begun : {f : Frame} {end : Place} → runAt (frame set) s (placeOf 0) ≡ gotAt f end
+      → (end .bit ≡ 0) × ((p : Place) × (runAt (begun set) s (placeOf 0) ≡ gotAt (f .header) p))
+  had-begun e =
+      frame-begun set s (placeOf 0)
+      (λ h p o. subst (Meets Listed (Open set)) o (holds-at Listed (Open set) s (placeOf 0) (opening-holds set)) .sound .mono)
+      e
+
   -- what reading a frame comes to
-  frame-read : {f : Frame} {end : Place} → runAt (frame set) s (placeOf 0) ≡ gotAt f end → Read (result set s)
+  frame-result : {f : Frame} {end : Place} → runAt (frame set) s (placeOf 0) ≡ gotAt f end → result set s ≡ record { report = accepted (f .header) end; front = f .samples }
   unfolding result resultOf finished
-  frame-read {f} {end} e =
-      let some : (h : FrameHeader) (p : Place) → runAt (opening set) s (placeOf 0) ≡ gotAt h p → 1 ≤ channelCount (h .channels) =
-      λ h p o. subst (Meets Listed (Open set)) o (holds-at Listed (Open set) s (placeOf 0) (opening-holds set)) .sound .mono in
-      let b = frame-begun set s (placeOf 0) some e in
-      record {
-        whole = f;
-        end = end;
-        place = b .1 .0;
-        opened = b .1 .1;
-        ran = e;
-        aligned = b .0;
-        is = ap₂ (resultOf s) (b .1 .1) e;
-      }
+  frame-result e = ap₂ (resultOf s) (had-begun e .1 .1) e
+
+  frame-read : {f : Frame} {end : Place} → runAt (frame set) s (placeOf 0) ≡ gotAt f end → Read (result set s)
+  frame-read {f} {end} e = record {
+    whole = f;
+    end = end;
+    place = had-begun e .1 .0;
+    opened = had-begun e .1 .1;
+    ran = e;
+    aligned = had-begun e .0;
+    is = frame-result e;
+  }
 
   -- number 0 is a frame that was read, and nothing else is
   pub zero-read : result set s .report .number ≡ 0 → Read (result set s)
@@ -157,8 +163,8 @@ module _ (set : Settings) (s : List ℕ) (z : result set s .report .number ≡ 0
 
   pub suffice : result set (take (result set s .report .consumed) s) ≡ result set s
   suffice =
-      rw consumed-is
-      (frame-read set (take (r .end .byte) s) (at-kept (frame set) s (placeOf 0) (r .whole) (r .end) (r .ran) (r .end .byte) (omega (arith, whole-bytes))) .is
+      ap (λ n. result set (take n s)) consumed-is
+      ∙ (frame-result set (take (r .end .byte) s) (at-kept (frame set) s (placeOf 0) (r .whole) (r .end) (r .ran) (r .end .byte) (omega (arith, whole-bytes)))
       ∙ sym (r .is))
 
   pub fewer : (m : ℕ) → 0 < m → m < result set s .report .consumed → result set (take m s) .report .number ≡ 2

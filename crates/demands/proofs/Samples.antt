@@ -85,7 +85,7 @@ residual-holds warm n =
     (λ order _. holds-bind _ (holds-require (eqb (n % 2 ^ order) 0) 9 (omega arith))
     (λ _ e. holds-bind _ (holds-require (leb warm (n / 2 ^ order)) 9 (omega arith))
     (λ _ h. holds-weaken (λ xs s. s .count ∙ sizes order n warm (eqb-true (n % 2 ^ order) 0 e) (leb-true warm (n / 2 ^ order) h))
-    (holds-each (partition method) (λ x. x) (partitionSizes order (n / 2 ^ order) warm) (every-of (partition-holds method) _)))))))
+    (holds-each {P = Some} (partition method) (λ x. x) (partitionSizes order (n / 2 ^ order) warm) (every-of (partition-holds method) (partitionSizes order (n / 2 ^ order) warm))))))))
 
 -- ---- the subframe
 
@@ -232,7 +232,7 @@ footer-holds =
 pub body-holds : (h : FrameHeader) → Holds Listed (Sized (sampleCount h) Sample) (body h)
 unfolding body sampleCount
 body-holds h =
-    holds-bind _ (holds-each (subframe (h .size)) (λ w. h .size) (widths (h .channels) (h .bits)) (every-of (subframe-holds (h .size)) _))
+    holds-bind _ (holds-each (subframe (h .size)) (λ w. h .size) (widths (h .channels) (h .bits)) (every-of (subframe-holds (h .size)) (widths (h .channels) (h .bits))))
     (λ xs s. holds-bind _ footer-holds
     (λ _ _. value
     (joined-sized (h .channels) (h .size) xs (record { count = s .count ∙ total-widths (h .channels) (h .bits) (h .size); every = s .every }))))
