@@ -17,7 +17,7 @@ use Rattle.rfc9639.specs.declared.ChannelAssignment.{ChannelAssignment}
 use Rattle.rfc9639.specs.declared.ChannelAssignment.the-variants.{Independent, LeftSide, SideRight, MidSide}
 use Rattle.rfc9639.specs.declared.FrameHeader.{FrameHeader}
 use Rattle.rfc9639.specs.Number.{followed, numberFrom, codedNumber}
-use Rattle.rfc9639.specs.Header.{assignment, bitDepth, blockSize, rateBits, timeOf, header, channelCount, sampleCount, firstSample}
+use Rattle.rfc9639.specs.Header.{assignment, bitDepth, blockSize, rateBits, timeOf, sync, sizeAndRate, channelsAndBits, blockTime, headerSum, header, channelCount, sampleCount, firstSample}
 
 -- the refusals of document 01 that a frame can have
 abbrev pub Listed : ℕ → Type 0
@@ -111,34 +111,59 @@ first-below blocking n h t l s k e = go (eqb blocking 0) refl
         rw (t, f) (lt-of-le-of-lt (mul-le-mul {n₂ = 65535} {m₂ = 2147483647} s few) (omega arith))
     go false f = rw (t, f) (omega arith)
 
-pub header-holds : Holds Listed Sound header
-unfolding header
-header-holds =
-    holds-bind _ (holds-bits 16)
-    (λ sync _. holds-bind _ (holds-require _ 3 (omega arith))
-    (λ _ _. holds-bind _ (holds-bits 4)
-    (λ sizeCode small. holds-bind _ (holds-require _ 4 (omega arith))
-    (λ _ _. holds-bind _ (holds-bits 4)
-    (λ rateCode _. holds-bind _ (holds-require _ 4 (omega arith))
-    (λ _ _. holds-bind _ (holds-bits 4)
-    (λ channelCode _. holds-bind _ (holds-require _ 4 (omega arith))
+third-holds : Holds Listed (λ c. c .0 < 16) sizeAndRate
+unfolding sizeAndRate
+third-holds =
+    holds-bind _ (holds-bits 4)
+    (λ size small. holds-bind _ (holds-require _ 4 (omega arith))
+    (λ _ _. holds-bind _ (holds-bits 4) (λ rate _. holds-bind _ (holds-require _ 4 (omega arith)) (λ _ _. value small))))
+
+fourth-holds : Holds Listed (λ c. (1 ≤ channelCount (c .0)) × (channelCount (c .0) ≤ 8) × (c .1 ≤ 24)) channelsAndBits
+unfolding channelsAndBits
+fourth-holds =
+    holds-bind _ (holds-bits 4)
+    (λ channels _. holds-bind _ (holds-require _ 4 (omega arith))
     (λ _ _. holds-bind _ (holds-bits 3)
-    (λ bitsCode _. holds-bind _ (depth-holds bitsCode)
-    (λ depth deep. holds-bind _ (holds-bits 1)
-    (λ reserved _. holds-bind _ (holds-require _ 4 (omega arith))
-    (λ _ _. holds-bind _ number-holds
-    (λ number below. holds-bind _ (holds-require _ 5 (omega arith))
-    (λ _ limit. holds-bind _ (size-holds sizeCode small)
-    (λ size fits. holds-bind _ (holds-bits (rateBits rateCode))
-    (λ rate _. holds-bind _ holds-passed
-    (λ before _. holds-bind _ (holds-bits 8)
-    (λ sum _. holds-bind _ (holds-require _ 6 (omega arith))
+    (λ depth _. holds-bind _ (depth-holds depth)
+    (λ n deep. holds-bind _ (holds-bits 1)
+    (λ reserved _. holds-bind _ (holds-require _ 4 (omega arith)) (λ _ _. value (assigned channels .0, assigned channels .1, deep)))))))
+
+-- what makes a header's first sample small: the size is judged elsewhere
+Timely : BlockTime → Type 0
+Timely time = (h : FrameHeader) → h .time ≡ time → h .size ≤ 65535 → firstSample h < 2 ^ 47
+
+time-holds : (blocking : ℕ) → blocking < 2 → Holds Listed Timely (blockTime blocking)
+unfolding blockTime Timely
+time-holds blocking l =
+    holds-bind _ number-holds
+    (λ number below. holds-bind _ (holds-require (eqb blocking 1 || leb number 2147483647) 5 (omega arith))
+    (λ _ limit. value (λ h t s. first-below blocking number h t l s below limit)))
+
+sync-holds : Holds Listed (λ b. b < 2) sync
+unfolding sync
+sync-holds = holds-bind _ (holds-bits 16) (λ v _. holds-bind _ (holds-require _ 3 (omega arith)) (λ _ _. value {a = v % 2} (omega arith)))
+
+sum-holds : Holds Listed (λ _. Unit {0}) headerSum
+unfolding headerSum
+sum-holds =
+    holds-bind _ holds-passed (λ before _. holds-bind _ (holds-bits 8) (λ sum _. holds-weaken (λ _ _. tt) (holds-require _ 6 (omega arith))))
+
+pub header-holds : Holds Listed Sound header
+unfolding header Timely
+header-holds =
+    holds-bind _ sync-holds
+    (λ blocking two. holds-bind _ third-holds
+    (λ c small. holds-bind _ fourth-holds
+    (λ d k. holds-bind _ (time-holds blocking two)
+    (λ time timely. holds-bind _ (size-holds (c .0) small)
+    (λ size fits. holds-bind _ (holds-bits (rateBits (c .1)))
+    (λ rate _. holds-bind _ sum-holds
     (λ _ _. value
     (record {
       some = fits .0;
       size = fits .1;
-      mono = assigned channelCode .0;
-      channels = assigned channelCode .1;
-      bits = deep;
-      first = first-below (sync % 2) number _ refl (omega arith) (fits .1) below limit;
-    }))))))))))))))))))))
+      mono = k .0;
+      channels = k .1;
+      bits = k .2;
+      first = timely _ refl (fits .1);
+    }))))))))

@@ -55,28 +55,57 @@ rateBits code =
 unfoldable pub timeOf : ℕ → ℕ → BlockTime
 timeOf blocking n = if eqb blocking 0 then FrameNumber n else SampleNumber n
 
-unfoldable pub header : Ask FrameHeader
-header = do
-  sync ← bits 16
-  require (eqb (sync / 2) 0x7ffc) 3
-  sizeCode ← bits 4
-  require (ltb 0 sizeCode) 4
-  rateCode ← bits 4
-  require (ltb rateCode 15) 4
-  channelCode ← bits 4
-  require (leb channelCode 10) 4
-  bitsCode ← bits 3
-  depth ← bitDepth bitsCode
+-- Fifteen sync bits and the blocking bit, which is handed on: judged at two bytes.
+unfoldable pub sync : Ask ℕ
+sync = do
+  v ← bits 16
+  require (eqb (v / 2) 0x7ffc) 3
+  done (v % 2)
+
+-- the third byte: the codes of the size and of the rate
+unfoldable pub sizeAndRate : Ask (ℕ × ℕ)
+sizeAndRate = do
+  size ← bits 4
+  require (ltb 0 size) 4
+  rate ← bits 4
+  require (ltb rate 15) 4
+  done (size, rate)
+
+-- the fourth byte
+unfoldable pub channelsAndBits : Ask (ChannelAssignment × ℕ)
+channelsAndBits = do
+  channels ← bits 4
+  require (leb channels 10) 4
+  depth ← bits 3
+  n ← bitDepth depth
   reserved ← bits 1
   require (eqb reserved 0) 4
+  done (assignment channels, n)
+
+-- A frame's number has at most 31 bits, which is judged at its last byte.
+unfoldable pub blockTime : ℕ → Ask BlockTime
+blockTime blocking = do
   number ← codedNumber
-  require (eqb (sync % 2) 1 || leb number 2147483647) 5
-  size ← blockSize sizeCode
-  rate ← bits (rateBits rateCode)
+  require (eqb blocking 1 || leb number 2147483647) 5
+  done (timeOf blocking number)
+
+-- Section 9.1.8: over all bytes of the header before it.
+unfoldable pub headerSum : Ask (Unit {0})
+headerSum = do
   before ← passed
   sum ← bits 8
   require (eqb sum (crc8 before)) 6
-  done (record { time = timeOf (sync % 2) number; size = size; channels = assignment channelCode; bits = depth })
+
+unfoldable pub header : Ask FrameHeader
+header = do
+  blocking ← sync
+  (sizeCode, rateCode) ← sizeAndRate
+  (channels, depth) ← channelsAndBits
+  time ← blockTime blocking
+  size ← blockSize sizeCode
+  rate ← bits (rateBits rateCode)
+  headerSum
+  done (record { time = time; size = size; channels = channels; bits = depth })
 
 -- ---- what a header says of its frame
 
