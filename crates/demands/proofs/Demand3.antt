@@ -14,7 +14,7 @@ use Rattle.reading.specs.Reading.{bitsFrom, answer, follow, run, _>>=_, bits}
 use Rattle.reading.specs.Bytes.{bitsOfBytes}
 use Rattle.reading.specs.Places.{runAt, inside, toAt, placeOf}
 use Rattle.reading.proofs.Holding.{Meets, holds-at, Sized, Every}
-use Rattle.rfc9639.specs.Header.{sync, header, sampleCount}
+use Rattle.rfc9639.specs.Header.{sync, codes, header, sampleCount}
 use Rattle.rfc9639.specs.Frame.{Settings, opening, frame}
 use Rattle.rfc9639.specs.Read.{Report, refusal, accepted, Result, untouched, cutShort, begun, resultOf, result, Outcome, read}
 use Rattle.demands.proofs.Frames.{Listed}
@@ -52,7 +52,7 @@ module _ (s : List ℕ) (b : List ℤ) (frame : read s b .report .number ≡ 0) 
   fewer-cut-short m some l = Answers.fewer (record { room = length b }) s frame m some l
 
 pub nothing-left : (b : List ℤ) → read [] b .report .number ≡ 1
-unfolding read result begun opening header sync bits _>>=_ runAt inside toAt run follow answer bitsFrom bitsOfBytes resultOf untouched refusal cutShort
+unfolding read result begun opening header codes sync bits _>>=_ runAt inside toAt run follow answer bitsFrom bitsOfBytes resultOf untouched refusal cutShort
 nothing-left b = refl
 
 -- ---- 3. More room changes no answer but 7: number, reports and samples are the same, and what the buffer has more is

@@ -15,9 +15,10 @@ use Rattle.rfc9639.specs.declared.BlockTime.{BlockTime}
 use Rattle.rfc9639.specs.declared.BlockTime.the-variants.{FrameNumber, SampleNumber}
 use Rattle.rfc9639.specs.declared.ChannelAssignment.{ChannelAssignment}
 use Rattle.rfc9639.specs.declared.ChannelAssignment.the-variants.{Independent, LeftSide, SideRight, MidSide}
+use Rattle.rfc9639.specs.declared.Codes.{Codes}
 use Rattle.rfc9639.specs.declared.FrameHeader.{FrameHeader}
 use Rattle.rfc9639.specs.Number.{followed, numberFrom, codedNumber}
-use Rattle.rfc9639.specs.Header.{assignment, bitDepth, blockSize, rateBits, timeOf, sync, sizeAndRate, channelsAndBits, blockTime, headerSum, header, channelCount, sampleCount, firstSample}
+use Rattle.rfc9639.specs.Header.{assignment, bitDepth, blockSize, rateBits, timeOf, sync, sizeAndRate, depthAndZero, channelsAndBits, codes, blockTime, headerSum, header, channelCount, sampleCount, firstSample}
 
 -- the refusals of document 01 that a frame can have
 abbrev pub Listed : ℕ → Type 0
@@ -111,6 +112,10 @@ first-below blocking n h t l s k e = go (eqb blocking 0) refl
         rw (t, f) (lt-of-le-of-lt (mul-le-mul {n₂ = 65535} {m₂ = 2147483647} s few) (omega arith))
     go false f = rw (t, f) (omega arith)
 
+sync-holds : Holds Listed (λ b. b < 2) sync
+unfolding sync
+sync-holds = holds-bind _ (holds-bits 16) (λ v _. holds-bind _ (holds-require _ 3 (omega arith)) (λ _ _. value {a = v % 2} (omega arith)))
+
 third-holds : Holds Listed (λ c. c .0 < 16) sizeAndRate
 unfolding sizeAndRate
 third-holds =
@@ -119,14 +124,31 @@ third-holds =
     (λ _ _. holds-bind _ (holds-bits 4) (λ rate _. holds-bind _ (holds-require _ 4 (omega arith)) (λ _ _. value small))))
 
 fourth-holds : Holds Listed (λ c. (1 ≤ channelCount (c .0)) × (channelCount (c .0) ≤ 8) × (c .1 ≤ 24)) channelsAndBits
-unfolding channelsAndBits
+unfolding channelsAndBits depthAndZero
 fourth-holds =
     holds-bind _ (holds-bits 4)
     (λ channels _. holds-bind _ (holds-require _ 4 (omega arith))
-    (λ _ _. holds-bind _ (holds-bits 3)
-    (λ depth _. holds-bind _ (depth-holds depth)
-    (λ n deep. holds-bind _ (holds-bits 1)
-    (λ reserved _. holds-bind _ (holds-require _ 4 (omega arith)) (λ _ _. value (assigned channels .0, assigned channels .1, deep)))))))
+    (λ _ _. holds-bind _
+    (holds-bind _ (holds-bits 3)
+    (λ code _. holds-bind _ (depth-holds code)
+    (λ n deep. holds-bind _ (holds-bits 1) (λ reserved _. holds-bind _ (holds-require _ 4 (omega arith)) (λ _ _. value {a = n} deep)))))
+    (λ n deep. value (assigned channels .0, assigned channels .1, deep))))
+
+-- codes that a header can have
+pub record Coded (c : Codes) : Type 0 where
+  pub blocking : c .blocking < 2
+  pub size : c .size < 16
+  pub mono : 1 ≤ channelCount (c .channels)
+  pub channels : channelCount (c .channels) ≤ 8
+  pub bits : c .bits ≤ 24
+
+pub codes-holds : Holds Listed Coded codes
+unfolding codes
+codes-holds =
+    holds-bind _ sync-holds
+    (λ blocking two. holds-bind _ third-holds
+    (λ c small. holds-bind _ fourth-holds
+    (λ d k. value (record { blocking = two; size = small; mono = k .0; channels = k .1; bits = k .2 }))))
 
 -- what makes a header's first sample small: the size is judged elsewhere
 Timely : BlockTime → Type 0
@@ -139,10 +161,6 @@ time-holds blocking l =
     (λ number below. holds-bind _ (holds-require (eqb blocking 1 || leb number 2147483647) 5 (omega arith))
     (λ _ limit. value (λ h t s. first-below blocking number h t l s below limit)))
 
-sync-holds : Holds Listed (λ b. b < 2) sync
-unfolding sync
-sync-holds = holds-bind _ (holds-bits 16) (λ v _. holds-bind _ (holds-require _ 3 (omega arith)) (λ _ _. value {a = v % 2} (omega arith)))
-
 sum-holds : Holds Listed (λ _. Unit {0}) headerSum
 unfolding headerSum
 sum-holds =
@@ -151,19 +169,17 @@ sum-holds =
 pub header-holds : Holds Listed Sound header
 unfolding header Timely
 header-holds =
-    holds-bind _ sync-holds
-    (λ blocking two. holds-bind _ third-holds
-    (λ c small. holds-bind _ fourth-holds
-    (λ d k. holds-bind _ (time-holds blocking two)
-    (λ time timely. holds-bind _ (size-holds (c .0) small)
-    (λ size fits. holds-bind _ (holds-bits (rateBits (c .1)))
+    holds-bind _ codes-holds
+    (λ c k. holds-bind _ (time-holds (c .blocking) (k .blocking))
+    (λ time timely. holds-bind _ (size-holds (c .size) (k .size))
+    (λ size fits. holds-bind _ (holds-bits (rateBits (c .rate)))
     (λ rate _. holds-bind _ sum-holds
     (λ _ _. value
     (record {
       some = fits .0;
       size = fits .1;
-      mono = k .0;
-      channels = k .1;
-      bits = k .2;
+      mono = k .mono;
+      channels = k .channels;
+      bits = k .bits;
       first = timely _ refl (fits .1);
-    }))))))))
+    }))))))

@@ -9,6 +9,7 @@ use Rattle.rfc9639.specs.declared.BlockTime.{BlockTime}
 use Rattle.rfc9639.specs.declared.BlockTime.the-variants.{FrameNumber, SampleNumber}
 use Rattle.rfc9639.specs.declared.ChannelAssignment.{ChannelAssignment}
 use Rattle.rfc9639.specs.declared.ChannelAssignment.the-variants.{Independent, LeftSide, SideRight, MidSide}
+use Rattle.rfc9639.specs.declared.Codes.{Codes}
 use Rattle.rfc9639.specs.declared.FrameHeader.{FrameHeader}
 use Rattle.rfc9639.specs.CheckSums.{crc8}
 use Rattle.rfc9639.specs.Number.{codedNumber}
@@ -71,16 +72,30 @@ sizeAndRate = do
   require (ltb rate 15) 4
   done (size, rate)
 
+-- the bits of a sample, and the bit behind them that must be zero
+unfoldable pub depthAndZero : Ask ℕ
+depthAndZero = do
+  code ← bits 3
+  depth ← bitDepth code
+  reserved ← bits 1
+  require (eqb reserved 0) 4
+  done depth
+
 -- the fourth byte
 unfoldable pub channelsAndBits : Ask (ChannelAssignment × ℕ)
 channelsAndBits = do
-  channels ← bits 4
-  require (leb channels 10) 4
-  depth ← bits 3
-  n ← bitDepth depth
-  reserved ← bits 1
-  require (eqb reserved 0) 4
-  done (assignment channels, n)
+  code ← bits 4
+  require (leb code 10) 4
+  depth ← depthAndZero
+  done (assignment code, depth)
+
+-- the first four bytes
+unfoldable pub codes : Ask Codes
+codes = do
+  blocking ← sync
+  (size, rate) ← sizeAndRate
+  (channels, depth) ← channelsAndBits
+  done (record { blocking = blocking; size = size; rate = rate; channels = channels; bits = depth })
 
 -- A frame's number has at most 31 bits, which is judged at its last byte.
 unfoldable pub blockTime : ℕ → Ask BlockTime
@@ -98,14 +113,12 @@ headerSum = do
 
 unfoldable pub header : Ask FrameHeader
 header = do
-  blocking ← sync
-  (sizeCode, rateCode) ← sizeAndRate
-  (channels, depth) ← channelsAndBits
-  time ← blockTime blocking
-  size ← blockSize sizeCode
-  rate ← bits (rateBits rateCode)
+  c ← codes
+  time ← blockTime (c .blocking)
+  size ← blockSize (c .size)
+  rate ← bits (rateBits (c .rate))
   headerSum
-  done (record { time = time; size = size; channels = channels; bits = depth })
+  done (record { time = time; size = size; channels = c .channels; bits = c .bits })
 
 -- ---- what a header says of its frame
 

@@ -20,6 +20,16 @@ pub enum ChannelAssignment {
     MidSide,
 }
 
+// What the first four bytes of a header say (RFC 9639 sections 9.1.1 to 9.1.4): the blocking bit, two codes whose values may
+// come behind the number, the channels, and the bits of a sample, 0 where the header leaves them to the stream.
+pub struct Codes {
+    pub blocking: u64,
+    pub size: u64,
+    pub rate: u64,
+    pub channels: ChannelAssignment,
+    pub bits: u32,
+}
+
 // A frame header that passed its checks (RFC 9639 section 9.1).
 pub struct FrameHeader {
     pub time: BlockTime,
