@@ -18,7 +18,7 @@ use Rattle.rfc9639.specs.declared.ChannelAssignment.the-variants.{Independent, 
 use Rattle.rfc9639.specs.declared.Codes.{Codes}
 use Rattle.rfc9639.specs.declared.FrameHeader.{FrameHeader}
 use Rattle.rfc9639.specs.Number.{followed, numberFrom, codedNumber}
-use Rattle.rfc9639.specs.Header.{assignment, bitDepth, blockSize, rateBits, timeOf, sync, sizeAndRate, depthAndZero, channelsAndBits, codes, blockTime, headerSum, header, channelCount, sampleCount, firstSample}
+use Rattle.rfc9639.specs.Header.{assignment, bitDepth, blockSize, rateBits, timeOf, sync, sizeAndRate, depthAndZero, channelsAndBits, codes, blockTime, headerSum, headerBehind, header, channelCount, sampleCount, firstSample}
 
 -- the refusals of document 01 that a frame can have
 abbrev pub Listed : ℕ → Type 0
@@ -167,7 +167,7 @@ sum-holds =
     holds-bind _ holds-passed (λ before _. holds-bind _ (holds-bits 8) (λ sum _. holds-weaken (λ _ _. tt) (holds-require _ 6 (omega arith))))
 
 pub header-holds : Holds Listed Sound header
-unfolding header Timely
+unfolding header headerBehind Timely
 header-holds =
     holds-bind _ codes-holds
     (λ c k. holds-bind _ (time-holds (c .blocking) (k .blocking))

@@ -111,14 +111,19 @@ headerSum = do
   sum ← bits 8
   require (eqb sum (crc8 before)) 6
 
-unfoldable pub header : Ask FrameHeader
-header = do
-  c ← codes
+-- the header behind its first four bytes
+unfoldable pub headerBehind : Codes → Ask FrameHeader
+headerBehind c = do
   time ← blockTime (c .blocking)
   size ← blockSize (c .size)
   rate ← bits (rateBits (c .rate))
   headerSum
   done (record { time = time; size = size; channels = c .channels; bits = c .bits })
+
+unfoldable pub header : Ask FrameHeader
+header = do
+  c ← codes
+  headerBehind c
 
 -- ---- what a header says of its frame
 
