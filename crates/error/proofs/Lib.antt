@@ -1,2 +1,3 @@
--- One outcome, and different numbers for different refusals.
+-- One outcome, different numbers for different refusals, and refusals that are passed on.
 pub mod Outcome
+pub mod Passing
