@@ -55,6 +55,18 @@ pub nothing-left : (b : List ℤ) → read [] b .report .number ≡ 1
 unfolding read result begun opening header codes sync bits _>>=_ runAt inside toAt run follow answer bitsFrom bitsOfBytes resultOf untouched refusal cutShort
 nothing-left b = refl
 
+-- so an accepted frame has a byte at least
+pub counted-some : (s : List ℕ) (b : List ℤ) → read s b .report .number ≡ 0 → 0 < read s b .report .consumed
+counted-some s b z = go (read s b .report .consumed) refl
+  where
+    go : (n : ℕ) → read s b .report .consumed ≡ n → 0 < n
+    go zero e =
+        absurd
+        (let same = sym (ap (λ n. read (take n s) b) e) ∙ counted-suffice s b z in
+        let one = nothing-left b in
+        omega (arith, ap (λ o. o .report .number) same))
+    go (suc n) e = omega arith
+
 -- ---- 3. More room changes no answer but 7: number, reports and samples are the same, and what the buffer has more is
 -- untouched.
 

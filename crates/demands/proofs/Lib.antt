@@ -4,3 +4,4 @@ pub mod Runs
 pub mod Samples
 pub mod Answers
 pub mod Demand3
+pub mod Cases
