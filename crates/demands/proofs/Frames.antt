@@ -60,7 +60,7 @@ pub record Sound (h : FrameHeader) : Type 0 where
   pub bits : h .bits ≤ 24
   pub first : firstSample h < 2 ^ 47
 
-depth-holds : (code : ℕ) → Holds Listed (λ d. d ≤ 24) (bitDepth code)
+pub depth-holds : (code : ℕ) → Holds Listed (λ d. d ≤ 24) (bitDepth code)
 unfolding bitDepth
 depth-holds code =
     holds-if (eqb code 0) (λ _. value {a = 0} (omega arith))
@@ -123,16 +123,19 @@ third-holds =
     (λ size small. holds-bind _ (holds-require _ 4 (omega arith))
     (λ _ _. holds-bind _ (holds-bits 4) (λ rate _. holds-bind _ (holds-require _ 4 (omega arith)) (λ _ _. value small))))
 
+pub zero-holds : Holds Listed (λ d. d ≤ 24) depthAndZero
+unfolding depthAndZero
+zero-holds =
+    holds-bind _ (holds-bits 3)
+    (λ code _. holds-bind _ (depth-holds code)
+    (λ n deep. holds-bind _ (holds-bits 1) (λ reserved _. holds-bind _ (holds-require _ 4 (omega arith)) (λ _ _. value {a = n} deep))))
+
 fourth-holds : Holds Listed (λ c. (1 ≤ channelCount (c .0)) × (channelCount (c .0) ≤ 8) × (c .1 ≤ 24)) channelsAndBits
-unfolding channelsAndBits depthAndZero
+unfolding channelsAndBits
 fourth-holds =
     holds-bind _ (holds-bits 4)
     (λ channels _. holds-bind _ (holds-require _ 4 (omega arith))
-    (λ _ _. holds-bind _
-    (holds-bind _ (holds-bits 3)
-    (λ code _. holds-bind _ (depth-holds code)
-    (λ n deep. holds-bind _ (holds-bits 1) (λ reserved _. holds-bind _ (holds-require _ 4 (omega arith)) (λ _ _. value {a = n} deep)))))
-    (λ n deep. value (assigned channels .0, assigned channels .1, deep))))
+    (λ _ _. holds-bind _ zero-holds (λ n deep. value (assigned channels .0, assigned channels .1, deep))))
 
 -- codes that a header can have
 pub record Coded (c : Codes) : Type 0 where

@@ -1,0 +1,136 @@
+-- What room a block's samples want, and what the part of a channel says to those who read it. Assumes nothing.
+use Prim.Native.Nat.{ℕ, suc, _+_, _-_, _*_, _/_, _≤_, _<_}
+use native.Mathlib.Nat.{le-div-iff-mul-le, div-lt-iff-lt-mul, mul-le-mul-right, suc-mul}
+use native.Mathlib.Omega.{arith}
+use mathlib.Core.Path.{_≡_, refl, ap, ap₂, sym, _∙_, subst}
+use mathlib.Core.Bool.{Bool, true, false, _&&_}
+use mathlib.Core.List.{List, []}
+use borrow.Author.Tests.{leb-true, leb-false, le-leb, lt-leb, lt-ltb, le-ltb, ltb-true, eq-eqb, ne-eqb}
+use lib.Dec.{leb, ltb}
+use lib.IntN.{ℤ, pos}
+use lib.ListN.{length, getD, take, drop}
+use mir.Syntax.{w32}
+use mir.Val.{SFits, toZ, ofZ}
+use mir.Facts.{toZ-ofZ}
+use Rattle.error.specs.declared.Refusal.{Refusal}
+use Rattle.block.specs.declared.Block.{Block}
+use Rattle.block.specs.declared.Part.{Part}
+use Rattle.block.specs.declared.SampleAt.{SampleAt}
+use Rattle.block.specs.declared.PairAt.{PairAt}
+use Rattle.block.specs.Blocks.{partOf, channelOf, sampleOf, pairOf}
+
+pub room-none : (channels size len : ℕ) → size ≡ 0 → true ≡ leb (channels * size) len
+room-none channels size len e = sym (le-leb (channels * size) len (rw e (omega arith)))
+
+pub room-some : (channels size len : ℕ) → 0 < size → leb channels (len / size) ≡ leb (channels * size) len
+room-some channels size len h = go (leb channels (len / size)) refl
+  where
+    go : (b : Bool) → leb channels (len / size) ≡ b → b ≡ leb (channels * size) len
+    go true e = sym (le-leb (channels * size) len (le-div-iff-mul-le {k = size} {x = channels} {y = len} h .0 (leb-true _ _ e)))
+    go false e = sym (lt-leb (channels * size) len (div-lt-iff-lt-mul {k = size} {x = len} {y = channels} h .0 (leb-false _ _ e)))
+
+-- the last sample of a channel is one of the block's
+pub within : (channels size channel len : ℕ) → channel < channels → channels * size ≤ len → channel * size + size ≤ len
+within channels size channel len h k = omega (arith, k, suc-mul channel size, mul-le-mul-right {m = suc channel} {n = channels} size h)
+
+module _ (n : ℕ) (b : Block) (channel : ℕ) where
+  abbrev pub there : Bool
+  there = ltb channel (b .channels) && leb (b .channels * b .size) n
+
+  pub there-no-channel : b .channels ≤ channel → there ≡ false
+  there-no-channel h = rw (le-ltb _ _ h)
+
+  pub there-no-room : channel < b .channels → leb (b .channels * b .size) n ≡ false → there ≡ false
+  there-no-room h k = rw (lt-ltb _ _ h, k)
+
+  pub there-is : channel < b .channels → leb (b .channels * b .size) n ≡ true → there ≡ true
+  there-is h k = rw (lt-ltb _ _ h, k)
+
+  pub part-is : there ≡ true → partOf n b channel ≡ Part.Range (channel * b .size) (channel * b .size + b .size)
+  unfolding partOf
+  part-is e = rw e
+
+  pub part-refuses : there ≡ false → partOf n b channel ≡ Part.Refused Refusal.BadArgument
+  unfolding partOf
+  part-refuses e = rw e
+
+  pub record Ranged (start end : ℕ) : Type 0 where
+    pub told : there ≡ true
+    pub from : start ≡ channel * b .size
+    pub to : end ≡ channel * b .size + b .size
+    pub inside : channel * b .size + b .size ≤ n
+
+  pub part-range : {r : Part} {start end : ℕ} → r ≡ partOf n b channel → r ≡ Part.Range start end → Ranged start end
+  part-range {r} {start} {end} e f = go (ltb channel (b .channels)) refl (leb (b .channels * b .size) n) refl
+    where
+      go : (t : Bool) → ltb channel (b .channels) ≡ t → (u : Bool) → leb (b .channels * b .size) n ≡ u → Ranged start end
+      go true p true q =
+          let k = part-is (rw (p, q)) in
+          record {
+            told = rw (p, q);
+            from = cc;
+            to = cc;
+            inside = within (b .channels) (b .size) channel n (ltb-true _ _ p) (leb-true _ _ q);
+          }
+      go true p false q = absurd (let k = part-refuses (rw (p, q)) in let z : _≡_ {A = ℕ} 0 1 = cc in omega arith)
+      go false p u q = absurd (let k = part-refuses (rw p) in let z : _≡_ {A = ℕ} 0 1 = cc in omega arith)
+
+  pub part-refused : {r : Part} {x : Refusal} → r ≡ partOf n b channel → r ≡ Part.Refused x → (there ≡ false) × (x ≡ Refusal.BadArgument)
+  part-refused {r} {x} e f = go there refl
+    where
+      go : (t : Bool) → there ≡ t → (there ≡ false) × (x ≡ Refusal.BadArgument)
+      go true p = absurd (let k = part-is p in let z : _≡_ {A = ℕ} 0 1 = cc in omega arith)
+      go false p = let k = part-refuses p in (p, cc)
+
+-- ---- a channel's samples, and one of them. A signed value is handed on by its bits.
+
+module _ (l : List ℤ) (b : Block) (channel : ℕ) where
+  pub channel-is : {start end : ℕ} → Ranged (length l) b channel start end → take (end - start) (drop start l) ≡ channelOf l b channel
+  unfolding channelOf
+  channel-is {start} {end} k =
+      ap₂ (λ n m. take n (drop m l)) (let e : end - start ≡ b .size = omega (arith, k .from, k .to) in e) (k .from) ∙ rw (k .told)
+
+  pub channel-none : there (length l) b channel ≡ false → [] ≡ channelOf l b channel
+  unfolding channelOf
+  channel-none e = rw e
+
+  module _ (index : ℕ) where
+    pub sample-no-index : b .size ≤ index → SampleAt.Refused Refusal.BadArgument ≡ sampleOf l b channel index
+    unfolding sampleOf
+    sample-no-index h = rw (le-ltb _ _ h)
+
+    module _ (h : index < b .size) where
+      pub sample-none : {x : Refusal} → (there (length l) b channel ≡ false) × (x ≡ Refusal.BadArgument) → SampleAt.Refused x ≡ sampleOf l b channel index
+      unfolding sampleOf
+      sample-none k = ap SampleAt.Refused (k .1) ∙ rw (lt-ltb _ _ h, k .0)
+
+      pub sample-is : {start end : ℕ} → Ranged (length l) b channel start end → SFits w32 (getD l (start + index) (pos 0))
+          → SampleAt.Value (toZ w32 (ofZ w32 (getD l (start + index) (pos 0)))) ≡ sampleOf l b channel index
+      unfolding sampleOf
+      sample-is k f = ap SampleAt.Value (toZ-ofZ f ∙ ap (λ n. getD l (n + index) (pos 0)) (k .from)) ∙ rw (lt-ltb _ _ h, k .told)
+
+-- ---- a pair
+
+module _ (l : List ℤ) (b : Block) (index : ℕ) where
+  pub pair-not-two : (b .channels ≡ 2 → ⊥) → PairAt.Refused Refusal.BadArgument ≡ pairOf l b index
+  unfolding pairOf
+  pair-not-two h = rw (ne-eqb _ _ h)
+
+  module _ (two : b .channels ≡ 2) where
+    pub pair-no-index : b .size ≤ index → PairAt.Refused Refusal.BadArgument ≡ pairOf l b index
+    unfolding pairOf
+    pair-no-index h = rw (eq-eqb _ _ two, le-ltb _ _ h)
+
+    pub pair-no-room : index < b .size → leb (b .channels * b .size) (length l) ≡ false → PairAt.Refused Refusal.BadArgument ≡ pairOf l b index
+    unfolding pairOf
+    pair-no-room h e = rw (eq-eqb _ _ two, lt-ltb _ _ h, e)
+
+    module _ (h : index < b .size) (e : leb (b .channels * b .size) (length l) ≡ true) where
+      -- the right sample is one of the block's
+      pub pair-inside : b .size + index < length l
+      pair-inside = omega (arith, h, subst (λ n. n * b .size ≤ length l) two (leb-true _ _ e))
+
+      pub pair-is : SFits w32 (getD l index (pos 0)) → SFits w32 (getD l (b .size + index) (pos 0))
+          → PairAt.Values (toZ w32 (ofZ w32 (getD l index (pos 0)))) (toZ w32 (ofZ w32 (getD l (b .size + index) (pos 0)))) ≡ pairOf l b index
+      unfolding pairOf
+      pair-is f g = ap₂ PairAt.Values (toZ-ofZ f) (toZ-ofZ g) ∙ rw (eq-eqb _ _ two, lt-ltb _ _ h, e)

@@ -1,0 +1,3 @@
+-- Laws of a block's parts, and one outcome for each function.
+pub mod Blocks
+pub mod Outcome

@@ -1,0 +1,27 @@
+-- Any two outcomes that meet a public function's contract are equal. Assumes nothing.
+use Prim.Native.Nat.{ℕ}
+use mathlib.Core.Path.{_≡_, sym, _∙_}
+use mathlib.Core.List.{List}
+use lib.IntN.{ℤ}
+use lib.ListN.{length}
+use Rattle.block.specs.declared.Block.{Block}
+use Rattle.block.specs.declared.Part.{Part}
+use Rattle.block.specs.declared.SampleAt.{SampleAt}
+use Rattle.block.specs.declared.PairAt.{PairAt}
+use Rattle.block.specs.Blocks.{partOf, channelOf, sampleOf, pairOf}
+
+one : {A : Type 0} {x r r′ : A} → r ≡ x → r′ ≡ x → r ≡ r′
+one p q = p ∙ sym q
+
+module _ (samples : List ℤ) (block : Block) where
+  pub channel-part-one : {r r′ : Part} (channel : ℕ) → r ≡ partOf (length samples) block channel → r′ ≡ partOf (length samples) block channel → r ≡ r′
+  channel-part-one channel = one
+
+  pub channel-one : {r r′ : List ℤ} (channel : ℕ) → r ≡ channelOf samples block channel → r′ ≡ channelOf samples block channel → r ≡ r′
+  channel-one channel = one
+
+  pub sample-one : {r r′ : SampleAt} (channel index : ℕ) → r ≡ sampleOf samples block channel index → r′ ≡ sampleOf samples block channel index → r ≡ r′
+  sample-one channel index = one
+
+  pub pair-one : {r r′ : PairAt} (index : ℕ) → r ≡ pairOf samples block index → r′ ≡ pairOf samples block index → r ≡ r′
+  pair-one index = one

@@ -1,0 +1,34 @@
+-- What access to a block's samples answers. A block of `channels` times `size` samples stands channel after channel.
+use Prim.Native.Nat.{ℕ, _+_, _*_}
+use mathlib.Core.Bool.{cond, _&&_}
+use mathlib.Core.List.{List, []}
+use lib.Dec.{leb, ltb, eqb}
+use lib.IntN.{ℤ, pos}
+use lib.ListN.{length, getD, take, drop}
+use Rattle.reading.specs.Reading.{if_then_else_}
+use Rattle.error.specs.declared.Refusal.{Refusal}
+use Rattle.block.specs.declared.Block.{Block}
+use Rattle.block.specs.declared.Part.{Part}
+use Rattle.block.specs.declared.SampleAt.{SampleAt}
+use Rattle.block.specs.declared.PairAt.{PairAt}
+
+-- a channel of the block, and all its samples there
+unfoldable pub partOf : ℕ → Block → ℕ → Part
+partOf n b channel =
+    if ltb channel (b .channels) && leb (b .channels * b .size) n then Part.Range (channel * b .size) (channel * b .size + b .size)
+    else Part.Refused Refusal.BadArgument
+
+unfoldable pub channelOf : List ℤ → Block → ℕ → List ℤ
+channelOf l b channel =
+    if ltb channel (b .channels) && leb (b .channels * b .size) (length l) then take (b .size) (drop (channel * b .size) l)
+    else []
+
+unfoldable pub sampleOf : List ℤ → Block → ℕ → ℕ → SampleAt
+sampleOf l b channel index =
+    if ltb index (b .size) && (ltb channel (b .channels) && leb (b .channels * b .size) (length l)) then SampleAt.Value (getD l (channel * b .size + index) (pos 0))
+    else SampleAt.Refused Refusal.BadArgument
+
+unfoldable pub pairOf : List ℤ → Block → ℕ → PairAt
+pairOf l b index =
+    if eqb (b .channels) 2 && (ltb index (b .size) && leb (b .channels * b .size) (length l)) then PairAt.Values (getD l index (pos 0)) (getD l (b .size + index) (pos 0))
+    else PairAt.Refused Refusal.BadArgument

@@ -1,0 +1,2 @@
+-- What access to a block's samples answers.
+pub mod Blocks

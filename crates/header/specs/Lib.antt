@@ -1,0 +1,2 @@
+-- What the header's functions answer, in the words of the definition.
+pub mod Answers
