@@ -21,5 +21,21 @@ if ! rt fmt --check; then
 fi
 log=$(mktemp) || exit 2
 trap 'rm -f "$log"' EXIT
+passed=0 failed=0
+count() { # adds up the last line of the log, 'N passed, M failed' with a name before it or none
+    line=$(tail -n 1 "$log" | sed -n 's/^\([a-z_]*: \)\{0,1\}\([0-9]*\) passed, \([0-9]*\) failed$/\2 \3/p')
+    if [ -z "$line" ]; then
+        failed=$((failed + 1))
+    else
+        passed=$((passed + ${line% *})) failed=$((failed + ${line#* }))
+    fi
+}
 rt ci 2>&1 | tee "$log"
-tail -n 1 "$log" | grep -Eq '^[1-9][0-9]* passed, 0 failed$'
+count
+for program in runner read_probe; do
+    [ -f "cases/$program.txt" ] || continue
+    sh cases/run.sh "$program" 2>&1 | tee "$log"
+    count
+done
+echo "$passed passed, $failed failed"
+[ "$failed" -eq 0 ] && [ "$passed" -gt 0 ]
