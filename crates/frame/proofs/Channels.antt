@@ -1,0 +1,199 @@
+-- The channels of a block one behind the other: how wide each is, and a loop that reads each into its part of the lent slice.
+-- Then the footer, and the channels as they were recorded. Assumes nothing.
+use Prim.Native.Nat.{ℕ, zero, suc, _+_, _-_, _*_, _≤_, _<_}
+use native.Mathlib.Nat.{suc-mul, sub-zero}
+use native.Mathlib.Numerals.{add-one}
+use native.Mathlib.Omega.{arith}
+use mathlib.Core.Path.{_≡_, refl, ap, sym, _∙_}
+use mathlib.Core.List.{List, [], _∷_, _++_}
+use borrow.Rule.Slice.PartMut.{midOf, putMid, same-len-mid}
+use lib.IntN.{ℤ, pos}
+use lib.ListN.{length, getD, take, drop, replicate, length-replicate, getD-replicate}
+use lib.Seq.{take-all, drop-cons, drop-length}
+use Rattle.reading.specs.declared.Place.{Place}
+use Rattle.reading.specs.Reading.{Ask, done, _>>=_, each}
+use Rattle.reading.specs.Places.{gotAt, runAt}
+use Rattle.reading.proofs.Running.{In, stays-in, runAt-done, bind-got, behind, behind-nil, each-step, each-end}
+use Rattle.error.specs.declared.Refusal.{Refusal}
+use Rattle.error.specs.Numbers.{refusedBy}
+use Rattle.error.proofs.Passing.{bind-refusal}
+use Rattle.rfc9639.specs.declared.BlockTime.the-variants.{FrameNumber, SampleNumber}
+use Rattle.rfc9639.specs.declared.ChannelAssignment.{ChannelAssignment}
+use Rattle.rfc9639.specs.declared.ChannelAssignment.the-variants.{Independent, LeftSide, SideRight, MidSide}
+use Rattle.rfc9639.specs.declared.FrameHeader.{FrameHeader}
+use Rattle.rfc9639.specs.Header.{channelCount, sampleCount, firstSample}
+use Rattle.rfc9639.specs.Subframe.{subframe}
+use Rattle.rfc9639.specs.Stereo.{joined}
+use Rattle.rfc9639.specs.Frame.{widths, footer, body}
+use Rattle.subframe.specs.declared.Decoded.{Decoded}
+use Rattle.subframe.specs.declared.Decoded.the-variants.{Done, Refused}
+use Rattle.subframe.specs.Answers.{means, Left, decodeAt}
+use Rattle.subframe.proofs.Lending.{done-is, refused-is, passed-on, behind-refusal, part-size, part-taken}
+use Rattle.subframe.proofs.Partitions.{first-refused}
+use Rattle.subframe.proofs.Channels.{not-wide, left-refused}
+
+-- ---- the number of the first sample
+
+module _ (h : FrameHeader) {n : ℕ} where
+  pub first-framed : h .time ≡ FrameNumber n → firstSample h ≡ h .size * n
+  unfolding firstSample
+  first-framed e = rw e
+
+  pub first-sampled : h .time ≡ SampleNumber n → firstSample h ≡ n
+  unfolding firstSample
+  first-sampled e = rw e
+
+-- ---- the widths
+
+pub widths-length : (c : ChannelAssignment) (b : ℕ) → length (widths c b) ≡ channelCount c
+unfolding widths channelCount
+widths-length (Independent n) b = length-replicate n b
+widths-length LeftSide b = refl
+widths-length SideRight b = refl
+widths-length MidSide b = refl
+
+-- the second of two is one bit wider, or the first
+up : (b i : ℕ) → i < 2 → b + i ≡ getD (b ∷ (b + 1) ∷ []) i 0
+up b zero h = omega arith
+up b (suc zero) h = refl
+up b (suc (suc i)) h = absurd (omega arith)
+
+down : (b i : ℕ) → i < 2 → b + 1 - i ≡ getD ((b + 1) ∷ b ∷ []) i 0
+down b zero h = omega arith
+down b (suc zero) h = omega arith
+down b (suc (suc i)) h = absurd (omega arith)
+
+module _ (c : ChannelAssignment) (b i : ℕ) (h : i < channelCount c) where
+  pub width-same : {n : ℕ} → c ≡ Independent n → b ≡ getD (widths c b) i 0
+  unfolding widths channelCount
+  width-same {n} e = sym (ap (λ a. getD (widths a b) i 0) e ∙ getD-replicate n i b 0 (rw e at h))
+
+  module _ (e : c ≡ LeftSide) where
+    pub pair-left : i < 2
+    unfolding channelCount
+    pair-left = rw e at h
+
+    pub width-left : b + i ≡ getD (widths c b) i 0
+    unfolding widths
+    width-left = rw e (up b i pair-left)
+
+  module _ (e : c ≡ SideRight) where
+    pub pair-right : i < 2
+    unfolding channelCount
+    pair-right = rw e at h
+
+    pub width-right : b + 1 - i ≡ getD (widths c b) i 0
+    unfolding widths
+    width-right = rw e (down b i pair-right)
+
+  module _ (e : c ≡ MidSide) where
+    pub pair-mid : i < 2
+    unfolding channelCount
+    pair-mid = rw e at h
+
+    pub width-mid : b + i ≡ getD (widths c b) i 0
+    unfolding widths
+    width-mid = rw e (up b i pair-mid)
+
+-- no channel is wider than 32 bits
+pub width-few : (c : ChannelAssignment) (b i : ℕ) → b ≤ 24 → i < channelCount c → getD (widths c b) i 0 ≤ 32
+unfolding widths channelCount
+width-few (Independent n) b i h l = omega (arith, getD-replicate n i b 0 l)
+width-few LeftSide b i h l = omega (arith, up b i l)
+width-few SideRight b i h l = omega (arith, down b i l)
+width-few MidSide b i h l = omega (arith, up b i l)
+
+-- ---- a loop over parts of n samples, one for each width: i of them are read, up to `start`. The first may start outside the
+-- input, and is refused then.
+
+pub record Dividing (n : ℕ) (ws : List ℕ) (s : List ℕ) (at₀ : Place) (l₀ l : List ℤ) (start i : ℕ) (at : Place) : Type 0 where
+  pub place : 1 ≤ i → In s at
+  pub within : i ≤ length ws
+  pub long : length l ≡ length l₀
+  pub sized : start + (length ws - i) * n ≡ length l
+  pub same : runAt (each (subframe n) ws) s at₀ ≡ behind (take start l) (runAt (each (subframe n) (drop i ws)) s at)
+
+pub begin : (n : ℕ) (ws : List ℕ) {s : List ℕ} {at : Place} (l : List ℤ) → length l ≡ length ws * n → Dividing n ws s at l l 0 0 at
+begin n ws l e = record { place = λ h. absurd (omega arith); within = omega arith; long = refl; sized = omega (arith, ap (λ m. m * n) (sub-zero (length ws))); same = sym (behind-nil _) }
+
+module _ {n : ℕ} {ws : List ℕ} {s : List ℕ} {at₀ : Place} {l₀ l : List ℤ} {start i : ℕ} {at : Place} (inv : Dividing n ws s at₀ l₀ l start i at) where
+  module _ (h : i < length ws) where
+    less : (length ws - i) * n ≡ (length ws - (i + 1)) * n + n
+    less =
+        ap (λ m. m * n) (let e : length ws - i ≡ suc (length ws - (i + 1)) = omega arith in e) ∙ suc-mul (length ws - (i + 1)) n
+
+    pub room : start + n ≤ length l
+    room = omega (arith, less, inv .sized)
+
+    abbrev part : ℕ
+    part = start + n - start
+
+    next : runAt (each (subframe n) ws) s at₀ ≡ behind (take start l) (runAt (each (subframe n) (getD ws i 0 ∷ drop (suc i) ws)) s at)
+    next = inv .same ∙ ap (λ t. behind (take start l) (runAt (each (subframe n) t) s at)) (drop-cons ws i 0 h)
+
+    -- with the part back the slice is as long as it came
+    pub part-back : (v : List ℤ) → length v ≡ length (midOf start part l) → length (putMid start part l v) ≡ length l₀
+    part-back v kept = same-len-mid start part l v kept ∙ inv .long
+
+    -- by what the decoder of the part answered and left
+    module _ {width : ℕ} (is : width ≡ getD ws i 0) (few : getD ws i 0 ≤ 32) (r : Decoded) (v : List ℤ) (told : means r v ≡ decodeAt width (length (midOf start part l)) s at) where
+      ran : means r v ≡ runAt (subframe n (getD ws i 0)) s at
+      ran =
+          told ∙ ap (λ w. decodeAt w (length (midOf start part l)) s at) is ∙ sym (not-wide (getD ws i 0) (length (midOf start part l)) s at few)
+          ∙ part-size start (start + n) l room (λ m. runAt (subframe m (getD ws i 0)) s at)
+          ∙ ap (λ m. runAt (subframe m (getD ws i 0)) s at) (let e : start + n - start ≡ n = omega arith in e)
+
+      pub step : {q : Place} → r ≡ Done q → length v ≡ length (midOf start part l)
+          → Dividing n ws s at₀ l₀ (putMid start part l v) (start + n) (i + 1) q
+      step {q} e kept =
+          let got = done-is v ran e in
+          let back = part-back v kept in
+          record {
+            place = λ _. stays-in (subframe n (getD ws i 0)) s at got;
+            within = omega arith;
+            long = back;
+            sized = omega (arith, less, back, inv .sized, inv .long);
+            same =
+                next ∙ each-step (subframe n) s (take start l) at (getD ws i 0) (drop (suc i) ws) got
+                ∙ ap (λ t. behind t (runAt (each (subframe n) (drop (suc i) ws)) s q)) (sym (part-taken start (start + n) l room v (omega arith) kept))
+                ∙ ap (λ m. behind (take (start + n) (putMid start part l v)) (runAt (each (subframe n) (drop m ws)) s q)) (sym (add-one i));
+          }
+
+      pub stops : {e : Refusal} → r ≡ Refused e → refusedBy e ≡ runAt (each (subframe n) ws) s at₀
+      stops {e} d =
+          sym
+          (next ∙ ap (behind (take start l)) (first-refused (subframe n) (getD ws i 0) (drop (suc i) ws) s at e (refused-is v ran d)) ∙ behind-refusal (take start l) e)
+
+  pub end : 1 ≤ length ws → length ws ≤ i → gotAt l at ≡ runAt (each (subframe n) ws) s at₀
+  end some h =
+      let all : i ≡ length ws = omega (arith, inv .within) in
+      let none : (length ws - i) * n ≡ 0 = ap (λ m. m * n) (let e : length ws - i ≡ 0 = omega arith in e) ∙ omega arith in
+      sym
+      (inv .same ∙ ap (λ t. behind (take start l) (runAt (each (subframe n) t) s at)) (ap (λ m. drop m ws) all ∙ drop-length ws)
+      ∙ each-end (subframe n) s (take start l) at (inv .place (omega arith)) ∙ ap (λ t. gotAt t at) (take-all start l (omega (arith, inv .sized, none))))
+
+-- ---- behind the channels
+
+module _ (h : FrameHeader) (s : List ℕ) (at : Place) where
+  abbrev coded : Ask (List ℤ)
+  coded = each (subframe (h .size)) (widths (h .channels) (h .bits))
+
+  abbrev left : ℕ → Decoded → List ℤ → Type 0
+  left = Left (runAt (body h) s at)
+
+  pub channels-stop : (n : ℕ) {r : Decoded} {e : Refusal} (l : List ℤ) → means r l ≡ runAt coded s at → r ≡ Refused e
+      → {out : List ℤ} → out ≡ replicate n (pos 0) → left n r out
+  unfolding body
+  channels-stop n l told d z = left-refused n l (passed-on coded s at _ l told d l) d z
+
+  module _ {l : List ℤ} {p : Place} (got : runAt coded s at ≡ gotAt l p) where
+    pub footer-stops : (n : ℕ) {e : Refusal} → runAt footer s p ≡ refusedBy e → {out : List ℤ} → out ≡ replicate n (pos 0) → left n (Refused e) out
+    unfolding body
+    footer-stops n {e} f z = record { answer = sym (bind-got coded s at _ got ∙ bind-refusal footer s p _ e f); stopped = z }
+
+    pub body-done : (n : ℕ) {q : Place} → runAt footer s p ≡ gotAt tt q → {out : List ℤ} → out ≡ joined (h .channels) (h .size) l → left n (Done q) out
+    unfolding body
+    body-done n {q} f e = record {
+      answer = ap (λ t. gotAt t q) e ∙ sym (bind-got coded s at _ got ∙ bind-got footer s p _ f ∙ runAt-done _ (stays-in footer s p f));
+      stopped = tt;
+    }

@@ -1,0 +1,45 @@
+-- Any two outcomes that meet a contract are equal: the report tells the answer, and the buffer is the definition's.
+-- Assumes nothing.
+use Prim.Native.Nat.{ℕ, _≤_}
+use native.Mathlib.Omega.{arith}
+use mathlib.Core.Path.{_≡_, ap, sym, _∙_}
+use mathlib.Core.List.{List}
+use lib.IntN.{ℤ}
+use Rattle.error.specs.declared.Refusal.{Refusal}
+use Rattle.error.specs.declared.Refusal.the-variants.{NothingLeft, CutShort, NotSync, Reserved, BadNumber, HeaderSum, NoRoom, NotDone, BadShape, FrameSum, BadArgument, SampleRange, OutputRoom}
+use Rattle.error.specs.Numbers.{numberOf}
+use Rattle.error.proofs.Outcome.{number-tells}
+use Rattle.rfc9639.specs.Read.{Report, refusal, Outcome}
+use Rattle.frame.specs.declared.Accepted.{Accepted}
+use Rattle.frame.specs.declared.Answer.{Answer}
+use Rattle.frame.specs.Reads.{reportOf, Reads}
+
+-- a frame's number is 0, and no refusal's
+some-number : (e : Refusal) → 1 ≤ numberOf e
+some-number NothingLeft = omega arith
+some-number CutShort = omega arith
+some-number NotSync = omega arith
+some-number Reserved = omega arith
+some-number BadNumber = omega arith
+some-number HeaderSum = omega arith
+some-number NoRoom = omega arith
+some-number NotDone = omega arith
+some-number BadShape = omega arith
+some-number FrameSum = omega arith
+some-number BadArgument = omega arith
+some-number SampleRange = omega arith
+some-number OutputRoom = omega arith
+
+-- what a report says of a frame
+reported : Report → Accepted
+reported r = record { consumed = r .consumed; first = r .first; channels = r .channels; bits = r .bits; size = r .size }
+
+pub report-tells : (r r′ : Answer) → reportOf r ≡ reportOf r′ → r ≡ r′
+unfolding refusal reported
+report-tells (Answer.Frame f) (Answer.Frame g) e = ap (λ x. Answer.Frame (reported x)) e
+report-tells (Answer.Frame f) (Answer.Refused x) e = absurd (omega (arith, some-number x, ap (λ y. y .number) e))
+report-tells (Answer.Refused x) (Answer.Frame f) e = absurd (omega (arith, some-number x, ap (λ y. y .number) e))
+report-tells (Answer.Refused x) (Answer.Refused y) e = ap Answer.Refused (number-tells x y (ap (λ z. z .number) e))
+
+pub read-frame-one : {o : Outcome} {r r′ : Answer} {left left′ : List ℤ} → Reads o r left → Reads o r′ left′ → (r ≡ r′) × (left ≡ left′)
+read-frame-one {r = r} {r′ = r′} p q = (report-tells r r′ (p .report ∙ sym (q .report)), p .samples ∙ sym (q .samples))

@@ -1,0 +1,173 @@
+-- What is behind a header, by the tests and the calls that were made (Answering). Assumes nothing.
+use Prim.Native.Nat.{ℕ, _*_, _≤_}
+use native.Mathlib.Nat.{mul-le-mul}
+use native.Mathlib.Omega.{arith}
+use mathlib.Core.Path.{_≡_, refl, ap, sym, _∙_, subst}
+use mathlib.Core.List.{List, _++_}
+use borrow.Author.Needs.{needs}
+use lib.IntN.{ℤ}
+use lib.ListN.{length, take, drop}
+use lib.Seq.{length-take-le}
+use Rattle.reading.specs.Places.{gotAt, placeOf, runAt}
+use Rattle.rfc9639.specs.Header.{header, sampleCount}
+use Rattle.rfc9639.specs.Frame.{body}
+use Rattle.demands.proofs.Frames.{Sound}
+use Rattle.input.proofs.Laws.{bit-is}
+use Rattle.subframe.specs.Answers.{Left}
+use Rattle.header.proofs.Heading.{header-sound}
+use Rattle.frame.proofs.Answering.{no-bits, no-room, no-first-bit, body-read, body-refused}
+use Rattle.frame.proofs.read_behind.Statement.{statement}
+use Rattle.frame.proofs.read_behind.Tie as tie
+
+channel-count-requires : tie.Need-channel-count-requires
+channel-count-requires c κs = search needs
+
+-- the header, and the count of its samples
+module _ (c : tie.After-channel-count) where
+  abbrev start : tie.Start
+  start = c .before .before
+
+  abbrev bytes : List ℕ
+  bytes = start .args .s .now
+
+  abbrev lent : List ℤ
+  lent = start .args .samples .now
+
+  abbrev count : ℕ
+  count = c .channel-count .result * start .args .h .size
+
+  headed-is : runAt header bytes (placeOf 0) ≡ gotAt (start .args .h) (start .args .at)
+  headed-is = sym (start .pre)
+
+  sound : Sound (start .args .h)
+  sound = header-sound bytes (start .pre) refl
+
+  count-is : count ≡ sampleCount (start .args .h)
+  unfolding sampleCount
+  count-is = ap (λ n. n * start .args .h .size) (c .channel-count .ensures)
+
+  count-few : count ≤ 8 * 65535
+  count-few = mul-le-mul {n₂ = 8} {m₂ = 65535} (omega (arith, c .channel-count .ensures, sound .channels)) (sound .size)
+
+  part-is : count ≤ length lent → length (take count lent) ≡ sampleCount (start .args .h)
+  part-is fits = length-take-le count lent fits ∙ count-is
+
+mul-count : tie.Need-mul-count
+mul-count c = omega (arith, count-few (c .before))
+
+returns : tie.Need-returns
+returns c = let k = c .before .before .before in no-bits (bytes k) (lent k) (headed-is k) (c .if1 .taken)
+
+returns-2 : tie.Need-returns-2
+returns-2 c =
+    let k = c .before .before .before .before in
+    no-room (bytes k) (lent k) (headed-is k) (c .before .if1 .left) (omega (arith, count-is k, c .if2 .taken))
+
+-- there is room
+fits : (c : tie.Else2) → sampleCount (start (c .before .before .before .before) .args .h) ≤ length (lent (c .before .before .before .before))
+fits c = omega (arith, count-is (c .before .before .before .before), c .if2 .left)
+
+read-bit-requires : tie.Need-read-bit-requires
+read-bit-requires c κs = search needs
+
+enum-told : tie.Need-enum-told
+enum-told c = search needs
+
+enum-told-2 : tie.Need-enum-told-2
+enum-told-2 c = search needs
+
+returns-3 : tie.Need-returns-3
+returns-3 c =
+    let r = c .before .before in let i = r .before in let k = i .before .before .before .before in
+    no-first-bit (bytes k) (lent k) (headed-is k) (i .before .if1 .left) (fits i) (bit-is (bytes k) _ (r .read-bit .ensures) (c .enum-told2 .given .1))
+
+slice-relend-prefix-decode-body : tie.Need-slice-relend-prefix-decode-body
+slice-relend-prefix-decode-body c = search needs
+
+slice-aggregate-decode-body : tie.Need-slice-aggregate-decode-body
+slice-aggregate-decode-body c =
+    let i = c .before .before .before .before in let k = i .before .before .before .before in
+    sym (length-take-le (count k) (lent k) (i .if2 .left))
+
+decode-body-requires : tie.Need-decode-body-requires
+decode-body-requires c κs =
+    let i = c .before .before .before .before in let k = i .before .before .before .before in
+    (sound k .mono, sound k .bits, part-is k (i .if2 .left))
+
+-- a body that was begun
+module _ (c : tie.After-decode-body) where
+  abbrev told-bit : tie.After-enum-told
+  told-bit = c .before .before
+
+  abbrev inner : tie.Else2
+  inner = told-bit .before .before .before
+
+  abbrev known : tie.After-channel-count
+  known = inner .before .before .before .before
+
+  abbrev front : List ℤ
+  front = c .decode-body .last .1 .1 .1 .0
+
+  part-long : length (take (count known) (lent known)) ≡ sampleCount (start known .args .h)
+  part-long = part-is known (inner .if2 .left)
+
+  long : length front ≡ sampleCount (start known .args .h)
+  long = c .decode-body .kept .1 .1 .1 .0 ∙ part-long
+
+  left : Left (runAt (body (start known .args .h)) (bytes known) (start known .args .at)) (sampleCount (start known .args .h)) (c .decode-body .result) front
+  left =
+      subst (λ n. Left (runAt (body (start known .args .h)) (bytes known) (start known .args .at)) n (c .decode-body .result) front) part-long
+      (c .decode-body .ensures)
+
+  stands : front ++ drop (count known) (lent known) ≡ front ++ drop (sampleCount (start known .args .h)) (lent known)
+  stands = ap (λ n. front ++ drop n (lent known)) (count-is known)
+
+enum-known-decoded : tie.Need-enum-known-decoded
+enum-known-decoded c = search needs
+
+first-sample-requires : tie.Need-first-sample-requires
+first-sample-requires c κs = let k = known (c .before .before .before .before) in omega (arith, sound k .first)
+
+enum-known-decoded-2 : tie.Need-enum-known-decoded-2
+enum-known-decoded-2 c = search needs
+
+same-length : tie.Need-same-length
+same-length c = search needs
+
+returns-4 : tie.Need-returns-4
+returns-4 c =
+    let g = c .before .before in let d = g .before .before .before in let t = told-bit d in let k = known d in
+    body-read (bytes k) (lent k) (headed-is k) (inner d .before .if1 .left) (fits (inner d)) (bit-is (bytes k) _ (t .before .before .read-bit .ensures) (t .enum-told .given .1))
+    (left d) (stands d) (g .decoded .given .1) (long d) (c .first-sample .ensures) (k .channel-count .ensures)
+
+same-length-2 : tie.Need-same-length-2
+same-length-2 c = search needs
+
+returns-5 : tie.Need-returns-5
+returns-5 c =
+    let g = c .before in let d = g .before .before .before in let t = told-bit d in let k = known d in
+    body-refused (bytes k) (lent k) (headed-is k) (inner d .before .if1 .left) (fits (inner d)) (bit-is (bytes k) _ (t .before .before .read-bit .ensures) (t .enum-told .given .1))
+    (left d) (stands d) (g .decoded2 .given .1)
+
+pub read-behind-spec : {M : Type 1} → statement M
+read-behind-spec =
+    tie.close
+    (tie.spec
+    channel-count-requires
+    mul-count
+    returns
+    returns-2
+    read-bit-requires
+    enum-told
+    enum-told-2
+    returns-3
+    slice-relend-prefix-decode-body
+    slice-aggregate-decode-body
+    decode-body-requires
+    enum-known-decoded
+    first-sample-requires
+    enum-known-decoded-2
+    same-length
+    returns-4
+    same-length-2
+    returns-5)

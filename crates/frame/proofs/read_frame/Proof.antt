@@ -1,0 +1,53 @@
+-- The whole: nothing left, no header, or what is behind the header. Assumes nothing.
+use mathlib.Core.Path.{_≡_, refl, sym}
+use borrow.Author.Needs.{needs}
+use Rattle.header.specs.Answers.{headed, headedRefusal}
+use Rattle.header.proofs.Heading.{header-got}
+use Rattle.header.proofs.Stepping.{passed-on}
+use Rattle.frame.proofs.Answering.{nothing-left, header-stops}
+use Rattle.frame.proofs.read_frame.Statement.{statement}
+use Rattle.frame.proofs.read_frame.Tie as tie
+
+returns : tie.Need-returns
+returns c = nothing-left _ _ (c .if1 .taken)
+
+read-header-requires : tie.Need-read-header-requires
+read-header-requires c κs = search needs
+
+enum-known-read : tie.Need-enum-known-read
+enum-known-read c = search needs
+
+enum-told : tie.Need-enum-told
+enum-told c = search needs
+
+header-refusal-requires : tie.Need-header-refusal-requires
+header-refusal-requires c κs = search needs
+
+returns-2 : tie.Need-returns-2
+returns-2 c =
+    let r = c .before .before .before in
+    header-stops _ _ (r .before .if1 .left) (c .header-refusal .result)
+    (passed-on headed headedRefusal (r .read-header .ensures) (c .before .enum-told .given .1) refl (c .header-refusal .ensures))
+
+read-behind-requires : tie.Need-read-behind-requires
+read-behind-requires c κs = let g = c .before .before in sym (header-got _ (g .before .before .read-header .ensures) (g .read .given .1))
+
+same-length : tie.Need-same-length
+same-length c = search needs
+
+returns-3 : tie.Need-returns-3
+returns-3 c = search needs
+
+pub read-frame-spec : {M : Type 1} → statement M
+read-frame-spec =
+    tie.close
+    (tie.spec
+    returns
+    read-header-requires
+    enum-known-read
+    enum-told
+    header-refusal-requires
+    returns-2
+    read-behind-requires
+    same-length
+    returns-3)

@@ -1,0 +1,41 @@
+-- `left_of_mid` meets its contract: half of a number that fits 32 bits fits them. Assumes nothing.
+use borrow.Author.Needs.{needs}
+use lib.IntN.{ℤ, _+ℤ_}
+use Rattle.rfc9639.specs.Stereo.{leftOfMid}
+use Rattle.number.proofs.Machine.{widen-fits}
+use Rattle.frame.proofs.Joining.{half-of}
+use Rattle.frame.proofs.stereo.left_of_mid.Statement.{statement}
+use Rattle.frame.proofs.stereo.left_of_mid.Tie as tie
+
+doubled-requires : tie.Need-doubled-requires
+doubled-requires c κs = search needs
+
+wrapping-add-requires : tie.Need-wrapping-add-requires
+wrapping-add-requires c κs = search needs
+
+cast-shift-down : tie.Need-cast-shift-down
+cast-shift-down c = widen-fits {z = c .wrapping-add .result} (record { sfits = c .wrapping-add .ok })
+
+shift-down-requires : tie.Need-shift-down-requires
+shift-down-requires c κs = search needs
+
+low32-requires : tie.Need-low32-requires
+low32-requires c κs = search needs
+
+returns : tie.Need-returns
+unfolding leftOfMid
+returns c =
+    let d = c .before in let u = d .before in let t = u .before in let f = t .before .fits in
+    half-of (λ (a b : ℤ). a +ℤ b) (f .mid) (f .side) (record { sfits = t .doubled .ok }) (record { sfits = u .wrapping-add .ok }) (record { sfits = d .shift-down .ok })
+    (record { sfits = c .low32 .ok }) (t .doubled .ensures) (u .wrapping-add .ensures) (d .shift-down .ensures) (c .low32 .ensures)
+
+pub left-of-mid-spec : {M : Type 1} → statement M
+left-of-mid-spec =
+    tie.close
+    (tie.spec
+    doubled-requires
+    wrapping-add-requires
+    cast-shift-down
+    shift-down-requires
+    low32-requires
+    returns)

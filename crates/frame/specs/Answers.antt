@@ -1,0 +1,14 @@
+-- What the footer's answer means, in the words of the definition.
+use Rattle.reading.specs.Places.{At, gotAt}
+use Rattle.error.specs.declared.Refusal.{Refusal}
+use Rattle.error.specs.Numbers.{refusedBy}
+use Rattle.frame.specs.declared.answers.Checked.{Checked}
+
+abbrev pub checked : Checked → At (Unit {0})
+checked (Checked.Passed p) = gotAt tt p
+checked (Checked.Refused e) = refusedBy e
+
+-- its refusal, where it has one
+abbrev pub checkedRefusal : Checked → Refusal
+checkedRefusal (Checked.Passed p) = Refusal.CutShort
+checkedRefusal (Checked.Refused e) = e

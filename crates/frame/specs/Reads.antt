@@ -1,0 +1,25 @@
+-- The reader's answer in document 01's numbers and values, and what it has to be.
+use Prim.Native.Nat.{ℕ}
+use mathlib.Core.Path.{_≡_}
+use mathlib.Core.List.{List}
+use lib.IntN.{ℤ}
+use Rattle.error.specs.Numbers.{numberOf}
+use Rattle.rfc9639.specs.Read.{Report, refusal, Outcome}
+use Rattle.frame.specs.declared.Accepted.{Accepted}
+use Rattle.frame.specs.declared.Answer.{Answer}
+
+abbrev pub reportOf : Answer → Report
+reportOf (Answer.Frame f) = record {
+  number = 0;
+  consumed = f .consumed;
+  first = f .first;
+  channels = f .channels;
+  bits = f .bits;
+  size = f .size;
+}
+reportOf (Answer.Refused e) = refusal (numberOf e)
+
+-- the answer and the buffer are those of the definition
+pub record Reads (o : Outcome) (r : Answer) (left : List ℤ) : Type 0 where
+  pub report : reportOf r ≡ o .report
+  pub samples : left ≡ o .buffer

@@ -1,0 +1,119 @@
+-- Parts `&mut out[a..e]` of a lent slice that are handed to a decoder and come back, and a decoder's answer that is used
+-- or passed on. Assumes nothing.
+use Prim.Native.Nat.{ℕ, _-_, _≤_}
+use native.Mathlib.Nat.{le-refl}
+use native.Mathlib.Omega.{arith}
+use mathlib.Core.Path.{_≡_, refl, ap, sym, _∙_}
+use mathlib.Core.Bool.{Bool, true, false, cond}
+use mathlib.Core.List.{List, _++_, append-assoc, append-nil}
+use borrow.Rule.Slice.PartMut.{midOf, postOf, putMid, mid-len, post-is}
+use lib.Dec.{eqb}
+use lib.IntN.{ℤ}
+use lib.ListN.{length, take, drop, length-append}
+use lib.Seq.{take-at, drop-at, drop-length, length-take-le, length-front}
+use Rattle.reading.specs.declared.Place.{Place}
+use Rattle.reading.specs.Reading.{Ask, done, _>>=_}
+use Rattle.reading.specs.Places.{At, gotAt, refusedAt, shortAt, runAt}
+use Rattle.reading.proofs.Running.{stays-in, runAt-done, bind-got, bind-refused, bind-short, behind}
+use Rattle.error.specs.declared.Refusal.{Refusal}
+use Rattle.error.specs.Numbers.{numberOf, refusedBy}
+use Rattle.error.proofs.Passing.{bind-refusal}
+use Rattle.subframe.specs.declared.Decoded.{Decoded}
+use Rattle.subframe.specs.declared.Decoded.the-variants.{Done, Refused}
+use Rattle.subframe.specs.Answers.{means}
+
+-- ---- a decoder's answer
+
+-- what was left, by what a match found of the answer
+module _ {x : At (List ℤ)} {r : Decoded} (l : List ℤ) (told : means r l ≡ x) where
+  pub done-is : {p : Place} → r ≡ Done p → x ≡ gotAt l p
+  done-is e = sym told ∙ ap (λ d. means d l) e
+
+  pub refused-is : {e : Refusal} → r ≡ Refused e → x ≡ refusedBy e
+  refused-is e = sym told ∙ ap (λ d. means d l) e
+
+-- a refusal is passed on, whatever stands in the slice then
+module _ (p : Ask (List ℤ)) (s : List ℕ) (at : Place) (k : List ℤ → Ask (List ℤ)) where
+  pub passed-on : {r : Decoded} {e : Refusal} (l : List ℤ) → means r l ≡ runAt p s at → r ≡ Refused e → (left : List ℤ) → means r left ≡ runAt (p >>= k) s at
+  passed-on {e = e} l told d left = ap (λ x. means x left) d ∙ sym (bind-refusal p s at k e (refused-is l told d))
+
+-- one reader, then a decoder, and what both give
+module _ {A : Type 0} (p : Ask A) (q : Ask (List ℤ)) (g : A → List ℤ → List ℤ) (s : List ℕ) (at : Place) {a : A} {at′ : Place} (first : runAt p s at ≡ gotAt a at′) where
+  pub second-done : {l : List ℤ} {end : Place} → runAt q s at′ ≡ gotAt l end → gotAt (g a l) end ≡ runAt (p >>= (λ x. q >>= (λ y. done (g x y)))) s at
+  second-done {l} {end} h =
+      sym
+      (bind-got p s at (λ x. q >>= (λ y. done (g x y))) first ∙ bind-got q s at′ (λ y. done (g a y)) h ∙ runAt-done (g a l) (stays-in q s at′ h))
+
+  pub second-refused : {r : Decoded} {e : Refusal} (l : List ℤ) → means r l ≡ runAt q s at′ → r ≡ Refused e → (left : List ℤ)
+      → means r left ≡ runAt (p >>= (λ x. q >>= (λ y. done (g x y)))) s at
+  second-refused l told d left =
+      passed-on q s at′ (λ y. done (g a y)) l told d left ∙ sym (bind-got p s at (λ x. q >>= (λ y. done (g x y))) first)
+
+-- what was read before goes in front of what a decoder left
+pub behind-refusal : {A : Type 0} (xs : List A) (e : Refusal) → behind xs (refusedBy e) ≡ refusedBy e
+unfolding behind
+behind-refusal {A} xs e = go (eqb (numberOf e) 2)
+  where
+    go : (b : Bool) → behind {A = A} xs (cond b shortAt (refusedAt (numberOf e))) ≡ cond b shortAt (refusedAt (numberOf e))
+    go true = refl
+    go false = refl
+
+pub behind-means : (xs : List ℤ) (r : Decoded) (l : List ℤ) → behind xs (means r l) ≡ means r (xs ++ l)
+unfolding behind
+behind-means xs (Done p) l = refl
+behind-means xs (Refused e) l = behind-refusal xs e
+
+-- ---- one part from a to e, v put back into its place
+
+module _ {A : Type 0} (a e : ℕ) (l : List A) (h : e ≤ length l) where
+  -- the reader of as many as the part has
+  pub part-size : {B : Type 0} (p : ℕ → B) → p (length (midOf a (e - a) l)) ≡ p (e - a)
+  part-size p = ap p (mid-len a e l h)
+
+  module _ (v : List A) (g : a ≤ e) (kept : length v ≡ length (midOf a (e - a) l)) where
+    -- up to its end
+    pub part-taken : take e (putMid a (e - a) l v) ≡ take a l ++ v
+    part-taken =
+        ap (take e) (sym (append-assoc (take a l) v (postOf a (e - a) l)))
+        ∙ take-at (take a l ++ v) (postOf a (e - a) l) e (omega (arith, length-append (take a l) v, length-take-le a l (omega arith), kept, mid-len a e l h))
+
+    pub part-put : putMid a (e - a) l v ≡ take a l ++ (v ++ drop e l)
+    part-put = ap (λ t. take a l ++ (v ++ t)) (post-is a e l g)
+
+-- ---- the first m, and the rest
+
+module _ {A : Type 0} (m : ℕ) (l : List A) (h : m ≤ length l) where
+  pub first-size : {B : Type 0} (p : ℕ → B) → p (length (take m l)) ≡ p m
+  first-size p = ap p (length-take-le m l h)
+
+  pub rest-size : {B : Type 0} (p : ℕ → B) → p (length (midOf m (length l - m) l)) ≡ p (length l - m)
+  rest-size p = part-size m (length l) l (le-refl (length l)) p
+
+  pub rest-put : (w : List A) → putMid m (length l - m) l w ≡ take m l ++ w
+  rest-put w = ap (λ (t : List A). take m l ++ t) (ap (λ (t : List A). w ++ t) (post-is m (length l) l h ∙ drop-length l) ∙ append-nil w)
+
+-- both: v in the first m, and then w in the rest
+module _ {A : Type 0} (m : ℕ) (l : List A) (h : m ≤ length l) (v : List A) (kept : length v ≡ length (take m l)) where
+  first-long : length v ≡ m
+  first-long = kept ∙ length-take-le m l h
+
+  pub first-taken : (w : List A) → take m (v ++ w) ≡ v
+  first-taken w = take-at v w m first-long
+
+  pub first-dropped : (w : List A) → drop m (v ++ w) ≡ w
+  first-dropped w = drop-at v w m first-long
+
+  abbrev between : List A
+  between = v ++ drop m l
+
+  pub between-long : length between ≡ length l
+  between-long = length-front l v m kept
+
+  within : m ≤ length between
+  within = omega (arith, between-long)
+
+  pub both-size : {B : Type 0} (p : ℕ → B) → p (length (midOf m (length between - m) between)) ≡ p (length l - m)
+  both-size p = rest-size m between within p ∙ ap (λ n. p (n - m)) between-long
+
+  pub both-put : (w : List A) → putMid m (length between - m) between w ≡ v ++ w
+  both-put w = rest-put m between within w ∙ ap (λ (t : List A). t ++ w) (first-taken (drop m l))

@@ -1,0 +1,26 @@
+-- The contract settles the outcome: any two answers, with the samples that they left, that meet it are equal.
+-- Assumes nothing.
+use Prim.Native.Nat.{ℕ}
+use mathlib.Core.Path.{_≡_, ap, sym, _∙_}
+use mathlib.Core.List.{List}
+use lib.IntN.{ℤ}
+use lib.ListN.{length, replicate}
+use Rattle.reading.specs.declared.Place.{Place}
+use Rattle.reading.specs.Places.{At}
+use Rattle.error.proofs.Passing.{refused-one, got-not-refused}
+use Rattle.subframe.specs.declared.Decoded.{Decoded}
+use Rattle.subframe.specs.declared.Decoded.the-variants.{Done, Refused}
+use Rattle.subframe.specs.Answers.{decodeAt, Left}
+
+left-one : (x : At (List ℤ)) (n : ℕ) (r r′ : Decoded) (l l′ : List ℤ) → Left x n r l → Left x n r′ l′ → (r ≡ r′) × (l ≡ l′)
+left-one x n (Done p) (Done p′) l l′ a b = let e = a .answer ∙ sym (b .answer) in let f : p ≡ p′ = cc in (ap Done f, cc)
+left-one x n (Done p) (Refused e′) l l′ a b = absurd (got-not-refused l p e′ (a .answer ∙ sym (b .answer)))
+left-one x n (Refused e) (Done p′) l l′ a b = absurd (got-not-refused l′ p′ e (b .answer ∙ sym (a .answer)))
+left-one x n (Refused e) (Refused e′) l l′ a b = (ap Refused (refused-one e e′ (a .answer ∙ sym (b .answer))), a .stopped ∙ sym (b .stopped))
+
+pub decode-one : (width n : ℕ) (s : List ℕ) (at : Place) (r r′ : Decoded) (l l′ : List ℤ)
+    → Left (decodeAt width n s at) n r l → Left (decodeAt width n s at) n r′ l′ → (r ≡ r′) × (l ≡ l′)
+decode-one width n s at r r′ l l′ a b = left-one (decodeAt width n s at) n r r′ l l′ a b
+
+pub fill-one : (l : List ℤ) (x : ℤ) (r r′ : List ℤ) → r ≡ replicate (length l) x → r′ ≡ replicate (length l) x → r ≡ r′
+fill-one l x r r′ e f = e ∙ sym f

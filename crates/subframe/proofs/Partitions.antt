@@ -1,0 +1,147 @@
+-- A partition by its parameter, and partitions one after the other into parts of the lent slice. Assumes nothing.
+use Prim.Native.Nat.{ℕ, suc, _+_, _-_, _*_, _%_, _^_, _≤_, _<_}
+use native.Mathlib.Nat.{mod-eq-of-lt, lt-of-le-of-lt, lt-of-lt-of-le, suc-mul}
+use native.Mathlib.Omega.{arith}
+use mathlib.Core.Path.{_≡_, refl, ap, sym, _∙_}
+use mathlib.Core.List.{List, [], _∷_, _++_}
+use borrow.Author.Tests.{eq-eqb, ne-eqb}
+use borrow.Rule.Slice.PartMut.{midOf, putMid, same-len-mid}
+use lib.Dec.{lit<}
+use lib.IntN.{ℤ}
+use lib.ListN.{length, take, replicate}
+use lib.Pow.{pow-mono, pow-add}
+use lib.Seq.{take-all}
+use Rattle.reading.specs.declared.Place.{Place}
+use Rattle.reading.specs.Reading.{Ask, bits, many, each}
+use Rattle.reading.specs.Places.{At, gotAt, refusedAt, shortAt, runAt}
+use Rattle.reading.proofs.Running.{In, stays-in, runAt-stop, bind-got, bind-short, bits-below, behind, behind-nil, each-step, each-end}
+use Rattle.input.specs.declared.Bits.{Bits}
+use Rattle.input.specs.declared.Bits.the-variants.{Value, Short}
+use Rattle.input.specs.Answers as Input
+use Rattle.input.specs.Answers.{low64}
+use Rattle.input.proofs.Laws.{read-got, read-short}
+use Rattle.error.specs.declared.Refusal.{Refusal}
+use Rattle.error.specs.Numbers.{refusedBy}
+use Rattle.rfc9639.specs.Residual.{rice, coded, partition}
+use Rattle.subframe.specs.declared.Decoded.{Decoded}
+use Rattle.subframe.specs.declared.Decoded.the-variants.{Done, Refused}
+use Rattle.subframe.specs.Answers.{means}
+use Rattle.error.proofs.Passing.{bind-refusal}
+use Rattle.subframe.proofs.Lending.{done-is, refused-is, passed-on, behind-refusal, behind-means, part-size, part-taken}
+
+-- ---- a partition
+
+-- the code's power is the definition's
+pub parameters : (method : ℕ) → method < 2 → (16 * 2 ^ method) % 2 ^ 64 ≡ 2 ^ (4 + method)
+parameters method h =
+    let few : 2 ^ (4 + method) ≤ 2 ^ 5 = pow-mono {i = 4 + method} {j = 5} (omega arith) in
+    let e : 16 * 2 ^ method ≡ 2 ^ (4 + method) = sym (pow-add 2 4 method) in
+    ap (λ x. x % 2 ^ 64) e ∙ mod-eq-of-lt (lt-of-le-of-lt few (lit< tt))
+
+module _ (method n : ℕ) (s : List ℕ) (at : Place) (h : method < 2) {r : Bits} (told : Input.means r ≡ low64 (runAt (bits (4 + method)) s at)) where
+  pub no-parameter : r ≡ Short → shortAt ≡ runAt (partition method n) s at
+  unfolding partition
+  no-parameter e = sym (bind-short (bits (4 + method)) s at (λ k. coded method k n) (read-short (4 + method) s at (omega arith) told e))
+
+  module _ {k : ℕ} {p : Place} (e : r ≡ Value k p) where
+    got : runAt (bits (4 + method)) s at ≡ gotAt k p
+    got = read-got (4 + method) s at (omega arith) told e
+
+    pub parameter-below : k < 2 ^ 5
+    parameter-below = lt-of-lt-of-le (bits-below (4 + method) s at got) (pow-mono {i = 4 + method} {j = 5} (omega arith))
+
+    pub partition-as-is : k ≡ (16 * 2 ^ method) % 2 ^ 64 - 1 → refusedAt 8 ≡ runAt (partition method n) s at
+    unfolding partition coded
+    partition-as-is f =
+        sym
+        (bind-got (bits (4 + method)) s at (λ k. coded method k n) got
+        ∙ rw (eq-eqb k (2 ^ (4 + method) - 1) (f ∙ ap (λ x. x - 1) (parameters method h))) (runAt-stop 8 (stays-in (bits (4 + method)) s at got)))
+
+    pub partition-coded : (k ≡ (16 * 2 ^ method) % 2 ^ 64 - 1 → ⊥) → {x : At (List ℤ)} → x ≡ runAt (many n (rice k)) s p → x ≡ runAt (partition method n) s at
+    unfolding partition coded
+    partition-coded f g =
+        g
+        ∙ sym
+        (bind-got (bits (4 + method)) s at (λ k. coded method k n) got
+        ∙ rw (ne-eqb k (2 ^ (4 + method) - 1) (λ d. f (d ∙ ap (λ x. x - 1) (sym (parameters method h))))))
+
+-- ---- the first of some parts, then the others
+
+module _ (f : ℕ → Ask (List ℤ)) (n : ℕ) (ns : List ℕ) (s : List ℕ) (at : Place) where
+  pub first-refused : (e : Refusal) → runAt (f n) s at ≡ refusedBy e → runAt (each f (n ∷ ns)) s at ≡ refusedBy e
+  unfolding each
+  first-refused e h = bind-refusal (f n) s at _ e h
+
+  pub first-stops : {r : Decoded} {e : Refusal} (l : List ℤ) → means r l ≡ runAt (f n) s at → r ≡ Refused e → (left : List ℤ) → means r left ≡ runAt (each f (n ∷ ns)) s at
+  unfolding each
+  first-stops l told d left = passed-on (f n) s at _ l told d left
+
+  pub first-then : {v : List ℤ} {p : Place} → runAt (f n) s at ≡ gotAt v p → (r : Decoded) (w : List ℤ) → means r w ≡ runAt (each f ns) s p
+      → means r (v ++ w) ≡ runAt (each f (n ∷ ns)) s at
+  first-then {v} h r w g =
+      sym (sym (behind-nil (runAt (each f (n ∷ ns)) s at)) ∙ each-step f s [] at n ns h ∙ ap (behind v) (sym g) ∙ behind-means v r w)
+
+-- ---- a loop over parts of one size: `left` of them are still to be read, from `start` on
+
+pub record Parted (f : ℕ → Ask (List ℤ)) (size count : ℕ) (s : List ℕ) (at₀ : Place) (l₀ l : List ℤ) (start left : ℕ) (at : Place) : Type 0 where
+  pub place : In s at
+  pub long : length l ≡ length l₀
+  pub sized : start + left * size ≡ length l
+  pub same : runAt (each f (replicate count size)) s at₀ ≡ behind (take start l) (runAt (each f (replicate left size)) s at)
+
+pub begin : (f : ℕ → Ask (List ℤ)) (size count : ℕ) {s : List ℕ} {at : Place} (l : List ℤ) → In s at → length l ≡ count * size → Parted f size count s at l l 0 count at
+begin f size count l h e = record { place = h; long = refl; sized = omega arith; same = sym (behind-nil _) }
+
+module _ {f : ℕ → Ask (List ℤ)} {size count : ℕ} {s : List ℕ} {at₀ : Place} {l₀ l : List ℤ} {start left : ℕ} {at : Place} (inv : Parted f size count s at₀ l₀ l start left at) where
+  module _ (h : 0 < left) where
+    less : left * size ≡ (left - 1) * size + size
+    less = ap (λ n. n * size) (let e : left ≡ suc (left - 1) = omega arith in e) ∙ suc-mul (left - 1) size
+
+    pub room : start + size ≤ length l
+    room = omega (arith, less, inv .sized)
+
+    abbrev part : ℕ
+    part = start + size - start
+
+    next : runAt (each f (replicate count size)) s at₀ ≡ behind (take start l) (runAt (each f (size ∷ replicate (left - 1) size)) s at)
+    next =
+        inv .same
+        ∙ ap (λ n. behind (take start l) (runAt (each f (replicate n size)) s at)) (let e : left ≡ suc (left - 1) = omega arith in e)
+
+    -- with the part back the slice is as long as it came
+    pub part-back : (v : List ℤ) → length v ≡ length (midOf start part l) → length (putMid start part l v) ≡ length l₀
+    part-back v kept = same-len-mid start part l v kept ∙ inv .long
+
+    ran : runAt (f (length (midOf start part l))) s at ≡ runAt (f size) s at
+    ran =
+        part-size start (start + size) l room (λ n. runAt (f n) s at)
+        ∙ ap (λ n. runAt (f n) s at) (let e : start + size - start ≡ size = omega arith in e)
+
+    -- by what the decoder of the part answered and left
+    module _ {r : Decoded} (v : List ℤ) (told : means r v ≡ runAt (f (length (midOf start part l))) s at) where
+      pub step : {q : Place} → r ≡ Done q → length v ≡ length (midOf start part l)
+          → Parted f size count s at₀ l₀ (putMid start part l v) (start + size) (left - 1) q
+      step {q} e kept =
+          let got = sym ran ∙ done-is v told e in
+          let back = part-back v kept in
+          record {
+            place = stays-in (f size) s at got;
+            long = back;
+            sized = omega (arith, less, back, inv .sized, inv .long);
+            same =
+                next ∙ each-step f s (take start l) at size (replicate (left - 1) size) got
+                ∙ ap (λ t. behind t (runAt (each f (replicate (left - 1) size)) s q)) (sym (part-taken start (start + size) l room v (omega arith) kept));
+          }
+
+      pub stops : {e : Refusal} → r ≡ Refused e → refusedBy e ≡ runAt (each f (replicate count size)) s at₀
+      stops {e} d =
+          sym
+          (next ∙ ap (behind (take start l)) (first-refused f size (replicate (left - 1) size) s at e (sym ran ∙ refused-is v told d)) ∙ behind-refusal (take start l) e)
+
+  pub end : left ≤ 0 → gotAt l at ≡ runAt (each f (replicate count size)) s at₀
+  end h =
+      let none : left ≡ 0 = omega arith in
+      let zero-parts : left * size ≡ 0 = ap (λ n. n * size) none ∙ omega arith in
+      sym
+      (inv .same ∙ ap (λ n. behind (take start l) (runAt (each f (replicate n size)) s at)) none
+      ∙ each-end f s (take start l) at (inv .place) ∙ ap (λ t. gotAt t at) (take-all start l (omega (arith, inv .sized, zero-parts))))

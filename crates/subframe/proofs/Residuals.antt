@@ -1,0 +1,120 @@
+-- The head of a residual: its method, its order, and the sizes of its partitions. Assumes nothing.
+use Prim.Native.Nat.{ℕ, suc, _+_, _-_, _*_, _/_, _%_, _^_, _≤_, _<_}
+use native.Mathlib.Nat.{one-mul, suc-mul, mul-comm, div-add-mod', mod-eq-of-lt, lt-of-le-of-lt}
+use native.Mathlib.Omega.{arith}
+use mathlib.Core.Path.{_≡_, ap, sym, _∙_, subst}
+use mathlib.Core.Bool.{true}
+use mathlib.Core.List.{List, _∷_}
+use borrow.Author.Tests.{lt-ltb, le-ltb, le-leb, lt-leb, eq-eqb, ne-eqb}
+use lib.Dec.{leb, eqb, lit<}
+use lib.IntN.{ℤ}
+use lib.ListN.{replicate}
+use lib.Pow.{pow-pos, pow-mono}
+use Rattle.reading.specs.declared.Place.{Place}
+use Rattle.reading.specs.Reading.{Ask, _>>=_, _>>_, bits, require, each}
+use Rattle.reading.specs.Places.{At, gotAt, refusedAt, shortAt, runAt}
+use Rattle.reading.proofs.Running.{In, stays-in, bind-got, bind-short, require-holds, require-fails, bits-below}
+use Rattle.input.specs.declared.Bits.{Bits}
+use Rattle.input.specs.declared.Bits.the-variants.{Value, Short}
+use Rattle.input.specs.Answers.{means, low64}
+use Rattle.input.proofs.Laws.{read-got, read-short}
+use Rattle.rfc9639.specs.Residual.{partition, partitionSizes, residual}
+
+-- the partitions of an order, as the code counts them
+abbrev pub partsOf : ℕ → ℕ
+partsOf order = (1 * 2 ^ order) % 2 ^ 64
+
+module _ {order : ℕ} (h : order < 16) where
+  parts-is : partsOf order ≡ 2 ^ order
+  parts-is =
+      let few : 2 ^ order ≤ 2 ^ 15 = pow-mono {i = order} {j = 15} (omega arith) in
+      ap (λ x. x % 2 ^ 64) (one-mul (2 ^ order)) ∙ mod-eq-of-lt (lt-of-le-of-lt few (lit< tt))
+
+  pub parts-some : 0 < partsOf order
+  parts-some = rw parts-is (pow-pos order)
+
+  -- together with the warm-up they are the block
+  pub sizes-sum : (warm n : ℕ) → n % partsOf order ≡ 0 → warm ≤ n / partsOf order
+      → n - warm ≡ n / partsOf order - warm + (partsOf order - 1) * (n / partsOf order)
+  sizes-sum warm n e l = omega (arith, whole, less)
+    where
+      whole : n / partsOf order * partsOf order + n % partsOf order ≡ n
+      whole = div-add-mod' n (partsOf order)
+
+      less : n / partsOf order * partsOf order ≡ (partsOf order - 1) * (n / partsOf order) + n / partsOf order
+      less =
+          mul-comm (n / partsOf order) (partsOf order)
+          ∙ ap (λ c. c * (n / partsOf order)) (let d : partsOf order ≡ suc (partsOf order - 1) = omega (arith, parts-some) in d)
+          ∙ suc-mul (partsOf order - 1) (n / partsOf order)
+
+-- a residual behind its order
+judged : ℕ → ℕ → ℕ → ℕ → Ask (List ℤ)
+judged warm n method order = do
+  require (eqb (n % 2 ^ order) 0) 9
+  require (leb warm (n / 2 ^ order)) 9
+  each (partition method) (partitionSizes order (n / 2 ^ order) warm)
+
+module _ (warm n : ℕ) (s : List ℕ) (at : Place) {r : Bits} (first : means r ≡ low64 (runAt (bits 2) s at)) where
+  pub no-method : r ≡ Short → shortAt ≡ runAt (residual warm n) s at
+  unfolding residual
+  no-method e = sym (bind-short (bits 2) s at _ (read-short 2 s at (omega arith) first e))
+
+  module _ {method : ℕ} {p : Place} (e : r ≡ Value method p) where
+    got : runAt (bits 2) s at ≡ gotAt method p
+    got = read-got 2 s at (omega arith) first e
+
+    behind-got : In s p
+    behind-got = stays-in (bits 2) s at got
+
+    pub reserved : 2 ≤ method → refusedAt 4 ≡ runAt (residual warm n) s at
+    unfolding residual
+    reserved h = sym (bind-got (bits 2) s at _ got ∙ require-fails 4 _ behind-got (le-ltb method 2 h))
+
+    module _ (h : method < 2) {q : Bits} (second : means q ≡ low64 (runAt (bits 4) s p)) where
+      pub no-order : q ≡ Short → shortAt ≡ runAt (residual warm n) s at
+      unfolding residual
+      no-order f =
+          sym
+          (bind-got (bits 2) s at _ got ∙ require-holds 4 _ behind-got (lt-ltb method 2 h) ∙ bind-short (bits 4) s p _ (read-short 4 s p (omega arith) second f))
+
+      module _ {order : ℕ} {next : Place} (f : q ≡ Value order next) where
+        told : runAt (bits 4) s p ≡ gotAt order next
+        told = read-got 4 s p (omega arith) second f
+
+        there : In s next
+        there = stays-in (bits 4) s p told
+
+        pub order-below : order < 16
+        order-below = bits-below 4 s p told
+
+        c-is : partsOf order ≡ 2 ^ order
+        c-is = parts-is order-below
+
+        -- the run from here
+        onward : runAt (residual warm n) s at ≡ runAt (judged warm n method order) s next
+        unfolding residual judged
+        onward = bind-got (bits 2) s at _ got ∙ require-holds 4 _ behind-got (lt-ltb method 2 h) ∙ bind-got (bits 4) s p _ told
+
+        pub uneven : (n % partsOf order ≡ 0 → ⊥) → refusedAt 9 ≡ runAt (residual warm n) s at
+        unfolding judged
+        uneven g = sym (onward ∙ require-fails 9 _ there (ne-eqb (n % 2 ^ order) 0 (λ d. g (ap (λ c. n % c) c-is ∙ d))))
+
+        module _ (g : n % partsOf order ≡ 0) where
+          even : eqb (n % 2 ^ order) 0 ≡ true
+          even = eq-eqb (n % 2 ^ order) 0 (ap (λ c. n % c) (sym c-is) ∙ g)
+
+          size-is : n / partsOf order ≡ n / 2 ^ order
+          size-is = ap (λ c. n / c) c-is
+
+          pub too-short : n / partsOf order < warm → refusedAt 9 ≡ runAt (residual warm n) s at
+          unfolding judged
+          too-short l =
+              sym (onward ∙ require-holds 9 _ there even ∙ require-fails 9 _ there (lt-leb warm (n / 2 ^ order) (subst (λ m. m < warm) size-is l)))
+
+          pub shaped : warm ≤ n / partsOf order → {x : At (List ℤ)}
+              → x ≡ runAt (each (partition method) ((n / partsOf order - warm) ∷ replicate (partsOf order - 1) (n / partsOf order))) s next
+              → x ≡ runAt (residual warm n) s at
+          unfolding judged partitionSizes
+          shaped l d =
+              d ∙ ap (λ c. runAt (each (partition method) ((n / c - warm) ∷ replicate (c - 1) (n / c))) s next) c-is
+              ∙ sym (onward ∙ require-holds 9 _ there even ∙ require-holds 9 _ there (le-leb warm (n / 2 ^ order) (subst (λ m. warm ≤ m) size-is l)))

@@ -1,0 +1,87 @@
+-- `dot12` meets its contract. The loop's invariant (Dotted): j products are summed up, and so many are small. Assumes nothing.
+use Prim.Native.Nat.{_-_}
+use native.Mathlib.Omega.{arith}
+use mathlib.Core.Path.{refl}
+use mathlib.Core.List.{reverse}
+use borrow.Author.Needs.{needs}
+use lib.IntN.{pos}
+use lib.ListN.{length, getD}
+use mir.Syntax.{w32}
+use mir.Val.{SFits}
+use Rattle.number.proofs.Sizes.{Dotted, begin, room, end}
+use Rattle.subframe.proofs.PredictSums.{asks, turn}
+use Rattle.subframe.proofs.predict.dot12.Statement.{statement}
+use Rattle.subframe.proofs.predict.dot12.Tie as tie
+
+abbrev Inv-loop : tie.InvT-loop
+Inv-loop taps before last sum₀ j₀ sum j = Dotted taps (reverse before) sum j
+
+abbrev μ-loop : tie.MeasureT-loop
+μ-loop taps before last sum₀ j₀ sum j = 12 - j
+
+sub-last : tie.Need-sub-last Inv-loop μ-loop
+sub-last c = search needs
+
+loop-holds : tie.Need-loop-holds Inv-loop μ-loop
+loop-holds c = begin _ _
+
+mul-mul-add : tie.Need-mul-mul-add Inv-loop μ-loop
+mul-mul-add c = search needs
+
+element-copy-out-mul-add : tie.Need-element-copy-out-mul-add Inv-loop μ-loop
+element-copy-out-mul-add c = search needs
+
+sub-mul-add : tie.Need-sub-mul-add Inv-loop μ-loop
+sub-mul-add c = search needs
+
+mul-mul-add-2 : tie.Need-mul-mul-add-2 Inv-loop μ-loop
+mul-mul-add-2 c = search needs
+
+shared-slice-copy-out-mul-add : tie.Need-shared-slice-copy-out-mul-add Inv-loop μ-loop
+shared-slice-copy-out-mul-add c = search needs
+
+module _ (c : tie.After-mul-add-arg2 Inv-loop μ-loop) where
+  abbrev l : tie.At-loop Inv-loop μ-loop
+  l = c .before .before .before
+
+  coef : SFits w32 (getD (l .before .args .taps .now) (l .loop .j) (pos 0))
+  coef = record { sfits = search needs }
+
+  elem : SFits w32 (getD (l .before .args .before .now) (length (l .before .args .before .now) - 1 - l .loop .j) (pos 0))
+  elem = record { sfits = search needs }
+
+mul-add-requires : tie.Need-mul-add-requires Inv-loop μ-loop
+mul-add-requires c κs = let s = l c .before in asks (s .args .taps .now) (s .args .before .now) (l c .loop .inv) (omega arith) (omega arith) (s .pre .2) (omega arith) (coef c)
+
+add-j : tie.Need-add-j Inv-loop μ-loop
+add-j c = search needs
+
+loop-less : tie.Need-loop-less Inv-loop μ-loop
+loop-less c = search needs
+
+loop-again : tie.Need-loop-again Inv-loop μ-loop
+loop-again c =
+    let d = c .before in let s = l d .before in
+    turn (s .args .taps .now) (s .args .before .now) (l d .loop .inv) (omega arith) (omega arith) (s .pre .2) (omega arith) (coef d) _ refl (elem d) _ (c .mul-add .ensures) (record { sfits = c .mul-add .ok })
+
+returns : tie.Need-returns Inv-loop μ-loop
+returns c = (end (c .before .loop .inv) (omega arith) (omega arith), room (c .before .loop .inv) (omega arith))
+
+pub dot12-spec : {M : Type 1} → statement M
+dot12-spec =
+    tie.close
+    (tie.spec
+    Inv-loop
+    μ-loop
+    sub-last
+    loop-holds
+    mul-mul-add
+    element-copy-out-mul-add
+    sub-mul-add
+    mul-mul-add-2
+    shared-slice-copy-out-mul-add
+    mul-add-requires
+    add-j
+    loop-less
+    loop-again
+    returns)

@@ -1,0 +1,38 @@
+-- A decoder's answer with the samples that it left, in the words of the definition.
+use Prim.Native.Nat.{ℕ}
+use mathlib.Core.Path.{_≡_}
+use mathlib.Core.Bool.{cond}
+use mathlib.Core.List.{List}
+use lib.Dec.{leb}
+use lib.IntN.{ℤ, pos}
+use lib.ListN.{replicate}
+use Rattle.reading.specs.declared.Place.{Place}
+use Rattle.reading.specs.Reading.{if_then_else_}
+use Rattle.reading.specs.Places.{At, gotAt, refusedAt, shortAt, runAt}
+use Rattle.error.specs.Numbers.{refusedBy}
+use Rattle.rfc9639.specs.Subframe.{subframe}
+use Rattle.subframe.specs.declared.Decoded.{Decoded}
+use Rattle.subframe.specs.declared.Decoded.the-variants.{Done, Refused}
+use Rattle.subframe.specs.declared.answers.Sample.{Sample}
+use Rattle.subframe.specs.declared.answers.Sample.the-variants.{Value, Short}
+
+abbrev pub means : Decoded → List ℤ → At (List ℤ)
+means (Done p) left = gotAt left p
+means (Refused e) left = refusedBy e
+
+abbrev pub sampled : Sample → At ℤ
+sampled (Value x p) = gotAt x p
+sampled Short = shortAt
+
+-- a channel of n samples of a width that 32 bits hold; another width is a bad argument, 11
+unfoldable pub decodeAt : ℕ → ℕ → List ℕ → Place → At (List ℤ)
+decodeAt width n s at = if leb width 32 then runAt (subframe n width) s at else refusedAt 11
+
+-- where it stops, zeros
+abbrev pub cleared : Decoded → ℕ → List ℤ → Type 0
+cleared (Done p) n left = Unit {0}
+cleared (Refused e) n left = left ≡ replicate n (pos 0)
+
+pub record Left (x : At (List ℤ)) (n : ℕ) (r : Decoded) (left : List ℤ) : Type 0 where
+  pub answer : means r left ≡ x
+  pub stopped : cleared r n left

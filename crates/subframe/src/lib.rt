@@ -1,0 +1,199 @@
+// One channel of a block (RFC 9639 section 9.2): claxon's subframe.rs. `decode` answers on every argument, and leaves the
+// samples of the definition in the lent part, or zeros where it stops.
+mod answers;
+mod header;
+mod predict;
+mod residual;
+
+use answers::HeaderRead;
+use answers::Quantizer;
+use answers::Sample;
+use error::Refusal;
+use header::order_of;
+use header::read_quantizer;
+use header::read_subframe_header;
+use predict::predict_fixed;
+use predict::predict_lpc;
+use reading::Place;
+use residual::decode_residual;
+use residual::decode_verbatim;
+use residual::read_sample;
+use rfc9639::SubframeHeader;
+use rfc9639::SubframeType;
+ghost use mathlib.Core.Path.{_≡_};
+ghost use Prim.Native.Nat.{_≤_, _<_};
+ghost use lib.IntN.{pos};
+ghost use lib.ListN.{length, take, replicate};
+ghost use mathlib.Core.List.{map};
+ghost use Rattle.reading.specs.Places.{runAt};
+ghost use Rattle.rfc9639.specs.Subframe.{fixed, lpc, samples, orderOf};
+ghost use Rattle.rfc9639.specs.Integers.{shiftUp};
+ghost use Rattle.subframe.specs.Answers.{means, Left, decodeAt};
+ghost use Rattle.subframe.specs.Parts.{lpcBehind, subframeBehind, Orderly};
+
+// The place behind what was decoded, or why it stopped.
+pub enum Decoded {
+    Done(Place),
+    Refused(Refusal),
+}
+
+// The same sample everywhere (RFC 9639 section 9.2.3).
+pub fn fill(out: &mut [i32], x: i32)
+    ensures { λ r. ⌜ now (out .exit) ≡ replicate (length (now (out .entry))) x ⌝ }
+{
+    let mut i = 0;
+    while i < out.len() {
+        out[i] = x;
+        i += 1;
+    }
+}
+
+fn decode_constant(s: &[u8], at: Place, width: u32, out: &mut [i32]) -> Decoded
+    requires { ⌜ width ≤ 32 ⌝ }
+    ensures { λ r. ⌜ means r (now (out .exit)) ≡ runAt (samples SubframeType.Constant width (length (now (out .entry)))) (now (s .entry)) at ⌝ }
+{
+    let read = read_sample(s, at, width);
+    let Sample::Value(x, p) = read else {
+        return Decoded::Refused(Refusal::CutShort);
+    };
+    fill(out, x);
+    Decoded::Done(p)
+}
+
+// RFC 9639 section 9.2.5: the warm-up samples, then the residual, each into its part; then the samples in place.
+fn decode_fixed(s: &[u8], at: Place, width: u32, order: usize, out: &mut [i32]) -> Decoded
+    requires { ⌜ (width ≤ 32) × (order ≤ 4) × (order ≤ length (now out)) ⌝ }
+    ensures { λ r. ⌜ means r (now (out .exit)) ≡ runAt (fixed order width (length (now (out .entry)))) (now (s .entry)) at ⌝ }
+{
+    let warm = decode_verbatim(s, at, width, &mut out[..order]);
+    let Decoded::Done(p) = warm else {
+        return warm;
+    };
+    let n = out.len();
+    let residual = decode_residual(s, p, order, n, &mut out[order..]);
+    let Decoded::Done(q) = residual else {
+        return residual;
+    };
+    predict_fixed(order, out);
+    Decoded::Done(q)
+}
+
+// RFC 9639 section 9.2.6 behind the shift: the coefficients, the residual, and the samples in place.
+fn decode_lpc_residual(
+    s: &[u8],
+    at: Place,
+    precision: u32,
+    shift: u32,
+    order: usize,
+    out: &mut [i32],
+) -> Decoded
+    requires { ⌜ (precision ≤ 15) × (shift < 16) × (order ≤ 32) × (order ≤ length (now out)) ⌝ }
+    ensures { λ r. ⌜ means r (now (out .exit)) ≡ runAt (lpcBehind order precision shift (take order (now (out .entry))) (length (now (out .entry)))) (now (s .entry)) at ⌝ }
+{
+    let mut coefficients = [0i32; 32];
+    let read = decode_verbatim(s, at, precision, &mut coefficients[..order]);
+    let Decoded::Done(p) = read else {
+        return read;
+    };
+    let n = out.len();
+    let residual = decode_residual(s, p, order, n, &mut out[order..]);
+    let Decoded::Done(q) = residual else {
+        return residual;
+    };
+    predict_lpc(&coefficients[..order], shift, out);
+    Decoded::Done(q)
+}
+
+// RFC 9639 section 9.2.6: the warm-up samples, the precision and the shift, and what is behind them.
+fn decode_lpc(s: &[u8], at: Place, width: u32, order: usize, out: &mut [i32]) -> Decoded
+    requires { ⌜ (width ≤ 32) × (order ≤ 32) × (order ≤ length (now out)) ⌝ }
+    ensures { λ r. ⌜ means r (now (out .exit)) ≡ runAt (lpc order width (length (now (out .entry)))) (now (s .entry)) at ⌝ }
+{
+    let warm = decode_verbatim(s, at, width, &mut out[..order]);
+    let Decoded::Done(p) = warm else {
+        return warm;
+    };
+    let quantizer = read_quantizer(s, p);
+    match quantizer {
+        Quantizer::Known(precision, shift, q) => decode_lpc_residual(
+            s,
+            q,
+            precision,
+            shift,
+            order,
+            out,
+        ),
+        Quantizer::Refused(e) => Decoded::Refused(e),
+    }
+}
+
+// The samples of a channel by its kind, in the bits that are not wasted.
+fn decode_kind(s: &[u8], at: Place, kind: SubframeType, width: u32, out: &mut [i32]) -> Decoded
+    requires { ⌜ (width ≤ 32) × Orderly kind × (orderOf kind ≤ length (now out)) ⌝ }
+    ensures { λ r. ⌜ means r (now (out .exit)) ≡ runAt (samples kind width (length (now (out .entry)))) (now (s .entry)) at ⌝ }
+{
+    match kind {
+        SubframeType::Constant => decode_constant(s, at, width, out),
+        SubframeType::Verbatim => decode_verbatim(s, at, width, out),
+        SubframeType::Fixed(order) => decode_fixed(s, at, width, order, out),
+        SubframeType::Lpc(order) => decode_lpc(s, at, width, order, out),
+    }
+}
+
+// The wasted bits back, as zeros (RFC 9639 section 9.2.2).
+fn shift_all(out: &mut [i32], wasted: u32)
+    ensures { λ r. ⌜ now (out .exit) ≡ map (shiftUp wasted) (now (out .entry)) ⌝ }
+{
+    let mut i = 0;
+    while i < out.len() {
+        out[i] = number::shift_up(out[i], wasted);
+        i += 1;
+    }
+}
+
+// What is behind a subframe's header.
+fn decode_headed(s: &[u8], at: Place, h: SubframeHeader, width: u32, out: &mut [i32]) -> Decoded
+    requires { ⌜ (width ≤ 32) × Orderly (h .kind) × (h .wasted ≤ width) ⌝ }
+    ensures { λ r. ⌜ means r (now (out .exit)) ≡ runAt (subframeBehind (length (now (out .entry))) width h) (now (s .entry)) at ⌝ }
+{
+    let kind = h.kind;
+    let wasted = h.wasted;
+    if !input::is_inside(s, at) {
+        return Decoded::Refused(Refusal::CutShort);
+    }
+    if out.len() < order_of(kind) {
+        return Decoded::Refused(Refusal::BadShape);
+    }
+    let decoded = decode_kind(s, at, kind, width - wasted, out);
+    let Decoded::Done(p) = decoded else {
+        return decoded;
+    };
+    shift_all(out, wasted);
+    Decoded::Done(p)
+}
+
+// A header and what is behind it. A width over 32 is no channel's, and is refused as an argument.
+fn decode_subframe(s: &[u8], at: Place, width: u32, out: &mut [i32]) -> Decoded
+    ensures { λ r. ⌜ means r (now (out .exit)) ≡ decodeAt width (length (now (out .entry))) (now (s .entry)) at ⌝ }
+{
+    if 32 < width {
+        return Decoded::Refused(Refusal::BadArgument);
+    }
+    let read = read_subframe_header(s, at, width);
+    match read {
+        HeaderRead::Header(h, p) => decode_headed(s, p, h, width, out),
+        HeaderRead::Refused(e) => Decoded::Refused(e),
+    }
+}
+
+// One channel of as many samples as `out` has, of `width` bits each. Where it stops, `out` is zeros.
+pub fn decode(s: &[u8], at: Place, width: u32, out: &mut [i32]) -> Decoded
+    ensures { λ r. ⌜ Left (decodeAt width (length (now (out .entry))) (now (s .entry)) at) (length (now (out .entry))) r (now (out .exit)) ⌝ }
+{
+    let decoded = decode_subframe(s, at, width, out);
+    let Decoded::Done(p) = decoded else {
+        fill(out, 0);
+        return decoded;
+    };
+    Decoded::Done(p)
+}

@@ -1,0 +1,201 @@
+// Samples stored as they are, and the coded residual (RFC 9639 sections 9.2.4 and 9.2.7), each into the part of a channel
+// that it is for. Each answer is that of the definition; where one stops, the part holds anything.
+use super::Decoded;
+use super::answers::Sample;
+use error::Refusal;
+use input::Bits;
+use reading::Place;
+ghost use mathlib.Core.Path.{_≡_};
+ghost use mathlib.Core.List.{_∷_};
+ghost use Prim.Native.Nat.{_+_, _-_, _*_, _%_, _^_, _≤_, _<_};
+ghost use lib.ListN.{length, replicate};
+ghost use Rattle.reading.specs.Reading.{many, each};
+ghost use Rattle.reading.specs.Places.{runAt};
+ghost use Rattle.rfc9639.specs.Integers.{sample};
+ghost use Rattle.rfc9639.specs.Residual.{folded as foldedOf, rice, partition, residual};
+ghost use Rattle.subframe.specs.Answers.{means, sampled};
+
+pub fn read_sample(s: &[u8], at: Place, width: u32) -> Sample
+    requires { ⌜ width ≤ 32 ⌝ }
+    ensures { λ r. ⌜ sampled r ≡ runAt (sample width) (now (s .entry)) at ⌝ }
+{
+    let read = input::read_bits(s, at, width);
+    let Bits::Value(v, p) = read else {
+        return Sample::Short;
+    };
+    Sample::Value(number::low32(number::sign_extend(v, width)), p)
+}
+
+// As many samples as `out` has (RFC 9639 section 9.2.4).
+pub fn decode_verbatim(s: &[u8], at: Place, width: u32, out: &mut [i32]) -> Decoded
+    requires { ⌜ width ≤ 32 ⌝ }
+    ensures { λ r. ⌜ means r (now (out .exit)) ≡ runAt (many (length (now (out .entry))) (sample width)) (now (s .entry)) at ⌝ }
+{
+    if !input::is_inside(s, at) {
+        return Decoded::Refused(Refusal::CutShort);
+    }
+    let mut p = at;
+    let mut i = 0;
+    while i < out.len() {
+        let read = read_sample(s, p, width);
+        match read {
+            Sample::Value(x, q) => {
+                out[i] = x;
+                p = q;
+                i += 1;
+            }
+            Sample::Short => {
+                return Decoded::Refused(Refusal::CutShort);
+            }
+        }
+    }
+    Decoded::Done(p)
+}
+
+// The quotient and the remainder of k bits as one number, of which 32 bits are kept.
+fn folded(q: u64, r: u64, k: u32) -> u32
+    requires { ⌜ (q < 2 ^ 33) × (k ≤ 31) × (r < 2 ^ k) ⌝ }
+    ensures { λ n. ⌜ n ≡ foldedOf k q r ⌝ }
+{
+    (((q << k) + r) % 0x1_0000_0000) as u32
+}
+
+// One residual of Rice parameter k (RFC 9639 section 9.2.7.2).
+fn read_rice(s: &[u8], at: Place, k: u32) -> Sample
+    requires { ⌜ k ≤ 31 ⌝ }
+    ensures { λ r. ⌜ sampled r ≡ runAt (rice k) (now (s .entry)) at ⌝ }
+{
+    let high = input::read_unary(s, at);
+    let Bits::Value(q, p) = high else {
+        return Sample::Short;
+    };
+    let low = input::read_bits(s, p, k);
+    let Bits::Value(r, next) = low else {
+        return Sample::Short;
+    };
+    Sample::Value(number::unfold(folded(q, r, k)), next)
+}
+
+// As many residuals as `out` has.
+fn decode_rice(s: &[u8], at: Place, k: u32, out: &mut [i32]) -> Decoded
+    requires { ⌜ k ≤ 31 ⌝ }
+    ensures { λ r. ⌜ means r (now (out .exit)) ≡ runAt (many (length (now (out .entry))) (rice k)) (now (s .entry)) at ⌝ }
+{
+    if !input::is_inside(s, at) {
+        return Decoded::Refused(Refusal::CutShort);
+    }
+    let mut p = at;
+    let mut i = 0;
+    while i < out.len() {
+        let read = read_rice(s, p, k);
+        match read {
+            Sample::Value(x, q) => {
+                out[i] = x;
+                p = q;
+                i += 1;
+            }
+            Sample::Short => {
+                return Decoded::Refused(Refusal::CutShort);
+            }
+        }
+    }
+    Decoded::Done(p)
+}
+
+// A partition (RFC 9639 section 9.2.7.1). Its last parameter, residuals stored as they are, is not done.
+fn decode_partition(s: &[u8], at: Place, method: u32, out: &mut [i32]) -> Decoded
+    requires { ⌜ method < 2 ⌝ }
+    ensures { λ r. ⌜ means r (now (out .exit)) ≡ runAt (partition method (length (now (out .entry)))) (now (s .entry)) at ⌝ }
+{
+    let read = input::read_bits(s, at, 4 + method);
+    let Bits::Value(k, p) = read else {
+        return Decoded::Refused(Refusal::CutShort);
+    };
+    if k == (16u64 << method) - 1 {
+        return Decoded::Refused(Refusal::NotDone);
+    }
+    decode_rice(s, p, k as u32, out)
+}
+
+// `count` partitions of `size` residuals each: as many as `out` has.
+fn decode_equal_partitions(
+    s: &[u8],
+    at: Place,
+    method: u32,
+    size: usize,
+    count: usize,
+    out: &mut [i32],
+) -> Decoded
+    requires { ⌜ (method < 2) × (length (now out) ≡ count * size) ⌝ }
+    ensures { λ r. ⌜ means r (now (out .exit)) ≡ runAt (each (partition method) (replicate count size)) (now (s .entry)) at ⌝ }
+{
+    if !input::is_inside(s, at) {
+        return Decoded::Refused(Refusal::CutShort);
+    }
+    let mut p = at;
+    let mut start = 0;
+    let mut left = count;
+    while 0 < left {
+        let end = start + size;
+        let read = decode_partition(s, p, method, &mut out[start..end]);
+        match read {
+            Decoded::Done(q) => {
+                p = q;
+                start = end;
+                left -= 1;
+            }
+            Decoded::Refused(e) => {
+                return Decoded::Refused(e);
+            }
+        }
+    }
+    Decoded::Done(p)
+}
+
+// All partitions: the first is shorter by the warm-up.
+fn decode_partitions(
+    s: &[u8],
+    at: Place,
+    method: u32,
+    size: usize,
+    count: usize,
+    warm: usize,
+    out: &mut [i32],
+) -> Decoded
+    requires { ⌜ (method < 2) × (warm ≤ size) × (length (now out) ≡ (size - warm) + count * size) ⌝ }
+    ensures { λ r. ⌜ means r (now (out .exit)) ≡ runAt (each (partition method) ((size - warm) ∷ replicate count size)) (now (s .entry)) at ⌝ }
+{
+    let first = size - warm;
+    let read = decode_partition(s, at, method, &mut out[..first]);
+    let Decoded::Done(p) = read else {
+        return read;
+    };
+    decode_equal_partitions(s, p, method, size, count, &mut out[first..])
+}
+
+// The residual behind `warm` samples of a block of n (RFC 9639 section 9.2.7).
+pub fn decode_residual(s: &[u8], at: Place, warm: usize, n: usize, out: &mut [i32]) -> Decoded
+    requires { ⌜ (warm ≤ n) × (length (now out) ≡ n - warm) ⌝ }
+    ensures { λ r. ⌜ means r (now (out .exit)) ≡ runAt (residual warm n) (now (s .entry)) at ⌝ }
+{
+    let first = input::read_bits(s, at, 2);
+    let Bits::Value(method, p) = first else {
+        return Decoded::Refused(Refusal::CutShort);
+    };
+    if 2 <= method {
+        return Decoded::Refused(Refusal::Reserved);
+    }
+    let second = input::read_bits(s, p, 4);
+    let Bits::Value(order, q) = second else {
+        return Decoded::Refused(Refusal::CutShort);
+    };
+    let count = 1usize << order;
+    if n % count != 0 {
+        return Decoded::Refused(Refusal::BadShape);
+    }
+    let size = n / count;
+    if size < warm {
+        return Decoded::Refused(Refusal::BadShape);
+    }
+    decode_partitions(s, q, method as u32, size, count - 1, warm, out)
+}
