@@ -43,6 +43,9 @@ pub enum Answer {
     Refused(Refusal),
 }
 
+// What a refusal leaves in each of the frame's samples, once its subframes have begun.
+const CLEARED: i32 = 0;
+
 fn channel_count(c: ChannelAssignment) -> usize
     ensures { λ r. ⌜ r ≡ channelCount c ⌝ }
 {
@@ -114,12 +117,12 @@ fn decode_body(s: &[u8], at: Place, h: FrameHeader, out: &mut [i32]) -> Decoded
 {
     let coded = decode_channels(s, at, h, out);
     let Decoded::Done(p) = coded else {
-        subframe::fill(out, 0);
+        subframe::fill(out, CLEARED);
         return coded;
     };
     let end = read_footer(s, p);
     let Checked::Passed(q) = end else {
-        subframe::fill(out, 0);
+        subframe::fill(out, CLEARED);
         return Decoded::Refused(checked_refusal(end));
     };
     let c = h.channels;
@@ -133,9 +136,10 @@ fn read_behind(s: &[u8], at: Place, h: FrameHeader, samples: &mut [i32]) -> Answ
     ensures { λ r. ⌜ Reads (readOf (now (s .entry)) (now (samples .entry))) r (now (samples .exit)) ⌝ }
 {
     let c = h.channels;
+    let bits = h.bits;
     let channels = channel_count(c);
     let count = channels * h.size;
-    if h.bits == 0 {
+    if bits == 0 {
         return Answer::Refused(Refusal::NotDone);
     }
     if samples.len() < count {
@@ -151,7 +155,7 @@ fn read_behind(s: &[u8], at: Place, h: FrameHeader, samples: &mut [i32]) -> Answ
             consumed: end.byte,
             first: first_sample(h),
             channels,
-            bits: h.bits,
+            bits,
             size: h.size,
         }),
         Decoded::Refused(e) => Answer::Refused(e),

@@ -56,16 +56,16 @@ mul-count : tie.Need-mul-count
 mul-count c = omega (arith, count-few (c .before))
 
 returns : tie.Need-returns
-returns c = let k = c .before .before .before in no-bits (bytes k) (lent k) (headed-is k) (c .if1 .taken)
+returns c = let k = c .before .before in no-bits (bytes k) (lent k) (headed-is k) (c .if1 .taken)
 
 returns-2 : tie.Need-returns-2
 returns-2 c =
-    let k = c .before .before .before .before in
+    let k = c .before .before .before in
     no-room (bytes k) (lent k) (headed-is k) (c .before .if1 .left) (omega (arith, count-is k, c .if2 .taken))
 
 -- there is room
-fits : (c : tie.Else2) → sampleCount (start (c .before .before .before .before) .args .h) ≤ length (lent (c .before .before .before .before))
-fits c = omega (arith, count-is (c .before .before .before .before), c .if2 .left)
+fits : (c : tie.Else2) → sampleCount (start (c .before .before .before) .args .h) ≤ length (lent (c .before .before .before))
+fits c = omega (arith, count-is (c .before .before .before), c .if2 .left)
 
 read-bit-requires : tie.Need-read-bit-requires
 read-bit-requires c κs = search needs
@@ -78,7 +78,7 @@ enum-told-2 c = search needs
 
 returns-3 : tie.Need-returns-3
 returns-3 c =
-    let r = c .before .before in let i = r .before in let k = i .before .before .before .before in
+    let r = c .before .before in let i = r .before in let k = i .before .before .before in
     no-first-bit (bytes k) (lent k) (headed-is k) (i .before .if1 .left) (fits i) (bit-is (bytes k) _ (r .read-bit .ensures) (c .enum-told2 .given .1))
 
 slice-relend-prefix-decode-body : tie.Need-slice-relend-prefix-decode-body
@@ -86,12 +86,12 @@ slice-relend-prefix-decode-body c = search needs
 
 slice-aggregate-decode-body : tie.Need-slice-aggregate-decode-body
 slice-aggregate-decode-body c =
-    let i = c .before .before .before .before in let k = i .before .before .before .before in
+    let i = c .before .before .before .before in let k = i .before .before .before in
     sym (length-take-le (count k) (lent k) (i .if2 .left))
 
 decode-body-requires : tie.Need-decode-body-requires
 decode-body-requires c κs =
-    let i = c .before .before .before .before in let k = i .before .before .before .before in
+    let i = c .before .before .before .before in let k = i .before .before .before in
     (sound k .mono, sound k .bits, part-is k (i .if2 .left))
 
 -- a body that was begun
@@ -103,7 +103,7 @@ module _ (c : tie.After-decode-body) where
   inner = told-bit .before .before .before
 
   abbrev known : tie.After-channel-count
-  known = inner .before .before .before .before
+  known = inner .before .before .before
 
   abbrev front : List ℤ
   front = c .decode-body .last .1 .1 .1 .0

@@ -1,0 +1,76 @@
+// Numbers as the bytes of the bench programs' records, the lowest byte first. Each function answers on every argument.
+ghost use mathlib.Core.Path.{_≡_};
+ghost use mathlib.Core.List.{_∷_, _++_};
+ghost use Prim.Native.Nat.{_+_, _*_, _/_, _%_, _^_};
+ghost use Rattle.rfc9639.specs.Integers.{low, wrapped};
+ghost use lib.IntN.{pos};
+ghost use Rattle.records.specs.Little.{little};
+
+// The low byte.
+fn low_byte(v: u64) -> u8
+    ensures { λ r. ⌜ r ≡ v % 256 ⌝ }
+{
+    (v % 256) as u8
+}
+
+// The body that starts a frame's record: its first byte, the bytes consumed, the number of the first sample, channels,
+// bits and block size.
+pub fn report(kind: u8, consumed: u64, first: u64, channels: u64, bits: u64, size: u64) -> [u8; 17]
+    ensures { λ r. ⌜ r ≡ kind ∷ (little 4 consumed ++ (little 8 first ++ (little 1 channels ++ (little 1 bits ++ little 2 size)))) ⌝ }
+{
+    [
+        kind,
+        low_byte(consumed),
+        low_byte(consumed / 256),
+        low_byte(consumed / 256 / 256),
+        low_byte(consumed / 256 / 256 / 256),
+        low_byte(first),
+        low_byte(first / 256),
+        low_byte(first / 256 / 256),
+        low_byte(first / 256 / 256 / 256),
+        low_byte(first / 256 / 256 / 256 / 256),
+        low_byte(first / 256 / 256 / 256 / 256 / 256),
+        low_byte(first / 256 / 256 / 256 / 256 / 256 / 256),
+        low_byte(first / 256 / 256 / 256 / 256 / 256 / 256 / 256),
+        low_byte(channels),
+        low_byte(bits),
+        low_byte(size),
+        low_byte(size / 256),
+    ]
+}
+
+// The 32 bits of a sample.
+fn bits_of(x: i32) -> u64
+    ensures { λ r. ⌜ r ≡ low 32 x ⌝ }
+{
+    if x < 0 {
+        return (x as i64 + 4294967296) as u64;
+    }
+    x as u64
+}
+
+pub fn sample(x: i32) -> [u8; 4]
+    ensures { λ r. ⌜ r ≡ little 4 (low 32 x) ⌝ }
+{
+    let v = bits_of(x);
+    [
+        low_byte(v),
+        low_byte(v / 256),
+        low_byte(v / 256 / 256),
+        low_byte(v / 256 / 256 / 256),
+    ]
+}
+
+// The number that four bytes spell.
+pub fn number_of(a: u8, b: u8, c: u8, d: u8) -> u64
+    ensures { λ r. ⌜ r ≡ a + 256 * (b + 256 * (c + 256 * d)) ⌝ }
+{
+    a as u64 + 256 * (b as u64 + 256 * (c as u64 + 256 * (d as u64)))
+}
+
+// The sample that four bytes spell.
+pub fn sample_of(a: u8, b: u8, c: u8, d: u8) -> i32
+    ensures { λ r. ⌜ r ≡ wrapped 32 (pos (a + 256 * (b + 256 * (c + 256 * d)))) ⌝ }
+{
+    number::low32(number::sign_extend(number_of(a, b, c, d), 32))
+}
