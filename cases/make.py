@@ -1,0 +1,164 @@
+"""Writes the stored cases: runner.txt and read_probe.txt, a line each of name, input and output in hex, and card.bin.
+
+    python3 make.py
+
+The outputs are model.py's, which was held against claxon 0.4.3 on random frames and damaged copies of them.
+"""
+import random
+
+import build
+import model
+from build import Bits, constant, fixed, frame, header, lpc, start, verbatim
+
+WHOLE = bytes.fromhex("fff869180000bf0358fd03128baa9a")
+RFC3 = bytes.fromhex("fff868020017e944004f6f313d1047d227cb6d090831452bdc2822228057a3")
+FLAC = bytes.fromhex("fff86598000f7114ffb9ffe90064ecec24023ade64d929789a923d8c005002740437055c80d00c0323a5d1091f5847a475452c0a")
+
+
+def mono(**k):
+    return header(**{**dict(size=1), **k})
+
+
+def tone(n, amp, step, rng):
+    import math
+
+    return [int(amp * math.sin(i * step)) + rng.randint(-3, 3) for i in range(n)]
+
+
+def refused():
+    """Inputs at which each check in turn refuses, with the sums right up to there."""
+    h, h4 = mono(), header(size=4, bits=8)
+    one = lambda head, bits: head + bits.bytes()
+    yield "empty", b""
+    yield "one-byte", b"\xff"
+    yield "not-sync", b"\xf8\xff"
+    yield "reserved-sync", b"\xff\xfa"
+    for name, text in [("size-code-0", "fff800"), ("rate-code-15", "fff81f"), ("channels-11", "fff810b8"), ("channels-before-bits", "fff810be"), ("bits-before-zero-bit", "fff8100f"), ("bits-code-3", "fff81006"), ("bits-code-7", "fff8100e"), ("zero-bit", "fff81009")]:
+        yield name, bytes.fromhex(text)
+    for name, text in [("number-80", "80"), ("number-ff", "ff"), ("number-c2-00", "c200"), ("number-cut", "c2"), ("limit", "fe828080808080"), ("limit-not-yet", "fe8280808080")]:
+        yield name, bytes.fromhex("fff86008" + text)
+    yield "size-65535", bytes.fromhex("fff8700800ffff")
+    yield "header-sum", mono(wrong=1)
+    yield "stream-bits", mono(bits=0)
+    yield "stream-bits-and-sum", mono(bits=0, wrong=1)
+    yield "no-room", frame(header(size=8193), [constant(1, 16)])
+    yield "header-alone", h
+    yield "subframe-zero-bit", h + b"\x80"
+    for kind in (2, 7, 13, 31):
+        yield f"type-{kind}", one(h, Bits().put(0, 1).put(kind, 6).put(0, 1))
+    yield "all-wasted", one(h, start(1, 16))
+    yield "side-wastes-one-more", frame(header(size=1, channels=8), [constant(3, 16), start(0, 16).put(1, 1)])
+    yield "wasted-32", one(h, start(1, 32))
+    yield "wasted-unended", h + b"\x03" + bytes(40)
+    yield "fixed-over-size", one(h, start(10))
+    yield "lpc-over-size", one(h4, start(31 + 5))
+    yield "precision-15", one(h4, start(32).put(1, 8).put(15, 4))
+    yield "negative-shift", one(h4, start(32).put(1, 8).put(3, 4).put(16, 5))
+    yield "method-2", one(h4, start(8).put(2, 2).put(15, 4))
+    yield "method-3", one(h4, start(8).put(3, 2).put(0, 4))
+    yield "no-multiple", one(header(size=3, bits=8), start(8).put(0, 2).put(1, 4))
+    yield "warm-up-over-partition", one(h4, start(10).put(1, 8).put(2, 8).put(0, 2).put(2, 4))
+    yield "parameter-15", one(header(size=2, bits=8), start(10).put(1, 8).put(2, 8).put(0, 6).put(15, 4))
+    yield "parameter-31", one(header(size=2, bits=8), start(10).put(1, 8).put(2, 8).put(1, 2).put(0, 4).put(31, 5))
+    yield "frame-sum", frame(h, [constant(5, 16)], wrong=1)
+    yield "rfc-3", RFC3
+
+
+def accepted(rng):
+    yield "whole-case", WHOLE
+    yield "flac-side-right", FLAC
+    yield "trailing", WHOLE + b"\x00\x01"
+    yield "trailing-sync", FLAC + b"\xff\xf8"
+    yield "row-of-three", WHOLE + FLAC + frame(mono(number=1), [constant(-5, 16)])
+    yield "row-then-damaged", WHOLE + frame(mono(), [constant(1, 16)], wrong=2) + WHOLE
+    for bits in (8, 12, 16, 20, 24):
+        top = 1 << bits - 1
+        for code in range(11):
+            n = 5
+            count = code + 1 if code < 8 else 2
+            widths = [bits] * count if code < 8 else [bits + (code == 9), bits + (code != 9)]
+            subs = [verbatim([rng.randrange(-(1 << w - 1), 1 << w - 1) if code < 8 else rng.randrange(-top // 2, top // 2) for _ in range(n)], w) for w in widths]
+            yield f"channels-{code}-bits-{bits}", frame(header(size=n, channels=code, bits=bits, number=code), subs)
+    yield "wraps-in-sides", frame(header(size=2, channels=10, bits=24), [fixed([8000000, -8000000], 24, 0, method=1, parameters=[22]), fixed([16777215, -16777216], 25, 0, method=1, parameters=[22])])
+    for order in range(5):
+        xs = tone(32, 900, 0.3, rng)
+        yield f"fixed-{order}", frame(header(size=32), [fixed(xs, 16, order, order=2, parameters=[8, 9, 7, 8])])
+        yield f"fixed-{order}-five-bit", frame(header(size=32), [fixed(xs, 16, order, method=1, order=1, parameters=[8, 20])])
+    for order in (1, 2, 3, 7, 8, 11, 12, 13, 20, 31, 32):
+        xs = tone(48, 3000, 0.2, rng)
+        cs = [rng.randrange(-300, 300) for _ in range(order)]
+        yield f"lpc-{order}", frame(header(size=48), [lpc(xs, 16, cs, 9, 10, parameters=[13])])
+    for wasted in (1, 7, 15):
+        yield f"wasted-{wasted}", frame(header(size=4), [verbatim([1 >> max(0, wasted - 14), -1, 0, -1], 16, wasted)])
+    for rate in range(15):
+        yield f"rate-{rate}", frame(mono(rate=rate), [constant(rate, 16)])
+    for size, code in [(1, 7), (192, None), (256, None), (256, 6), (576, None), (1152, None), (4608, None), (4096, None), (8192, None), (300, 7)]:
+        yield f"size-{size}-code-{code or 'fixed'}", frame(header(size=size, code=code), [constant(-7, 16)])
+    for v, length in [(0, 7), (127, 2), (2147483647, None), (2147483647, 7), (1 << 35, None)]:
+        yield f"number-{v}-{length or 'shortest'}", frame(mono(number=v, length=length, variable=int(v > 2147483647)), [constant(1, 16)])
+    yield "warm-up-as-long", frame(header(size=2, bits=8), [fixed([100, -100], 8, 2)])
+    yield "padding-ones", frame(mono(bits=12), [constant(5, 12)], pad=1)
+    yield "quotient-dropped", frame(mono(), [Bits().add(start(8)).put(1, 2).put(0, 4).put(30, 5).unary(4).put(6314, 30)])
+    yield "residual-least", frame(mono(), [Bits().add(start(8)).put(1, 2).put(0, 4).put(30, 5).unary(3).put((1 << 30) - 1, 30)])
+    yield "beyond-the-bits", frame(header(size=2, bits=8), [fixed([127, 128], 8, 1)])
+
+
+def cuts(name, data):
+    for n in range(len(data)):
+        yield f"cut-{name}-{n}", data[:n]
+
+
+def runner_cases():
+    rng = random.Random(9639)
+    yield from refused()
+    yield from accepted(rng)
+    yield from cuts("whole", WHOLE)
+    yield from cuts("flac", FLAC)
+
+
+def probe_cases():
+    """Room and fill before the bytes: every row of the table of what the buffer holds."""
+    rng = random.Random(204)
+    at = lambda room, fill: model.little(room, 4) + model.little(fill, 4)
+    for name, data in refused():
+        yield name, at(6, -77) + data
+    for name, data in [("frame", WHOLE), ("frame-sum", WHOLE[:-1] + b"\x00"), ("cut", WHOLE[:-1]), ("flac", FLAC)]:
+        for room in (0, 1, 2, 3, 31, 32, 33):
+            yield f"{name}-room-{room}", at(room, 7) + data
+    yield "room-65536", at(65536, 1)[:8] + WHOLE[:1]
+    yield "room-65537", at(65537, 1) + WHOLE
+    yield "fill-least", at(3, -(1 << 31)) + WHOLE
+    yield "no-input", b""
+    yield "room-alone", at(2, 0)[:4]
+    yield from ((f"cut-{n}", at(3, 9) + WHOLE[:n]) for n in range(len(WHOLE)))
+
+
+def write(name, cases, program):
+    rows = [f"{case} {data.hex() or '-'} {program(data).hex() or '-'}\n" for case, data in cases]
+    rows = [row for row in rows if len(row) < 200000]
+    with open(name, "w") as out:
+        out.writelines(rows)
+    print(name, len(rows))
+
+
+def card():
+    """A small card: a night of three callers, each with another way of being stored."""
+    rng = random.Random(7)
+    out = b""
+    for k in range(6):
+        n = 256
+        left = tone(n, 2000 - 300 * k, 0.05 * (k + 1), rng)
+        right = [x // 2 + rng.randint(-2, 2) for x in left]
+        mid = [(a + b) >> 1 for a, b in zip(left, right)]
+        side = [a - b for a, b in zip(left, right)]
+        head = header(size=n, channels=[1, 8, 9, 10][k % 4], number=k, rate=9)
+        pair = [(left, right, 16, 16), (left, side, 16, 17), (side, right, 17, 16), (mid, side, 16, 17)][k % 4]
+        out += frame(head, [fixed(pair[0], pair[2], 2, order=2, parameters=[4, 5, 4, 5]), fixed(pair[1], pair[3], 1 + k % 3, parameters=[6])])
+    return out
+
+
+if __name__ == "__main__":
+    write("runner.txt", runner_cases(), model.runner)
+    write("read_probe.txt", probe_cases(), model.read_probe)
+    with open("card.bin", "wb") as out:
+        out.write(card())

@@ -1,0 +1,221 @@
+"""A plain reading of the scope paper in Python: what one read answers, and what the buffer holds afterwards.
+
+It shares nothing with the definition or the code, so that stored cases are no echo of them. make.py uses it.
+"""
+
+
+class Stop(Exception):
+    def __init__(self, number):
+        self.number = number
+
+
+class Input:
+    def __init__(self, data):
+        self.data, self.at = data, 0
+
+    def bits(self, n):
+        v = 0
+        for _ in range(n):
+            if self.at >= 8 * len(self.data):
+                raise Stop(2)
+            v = v * 2 + (self.data[self.at // 8] >> (7 - self.at % 8) & 1)
+            self.at += 1
+        return v
+
+    def zeros(self):
+        z = 0
+        while self.bits(1) == 0:
+            z += 1
+        return z
+
+
+def require(fact, number):
+    if not fact:
+        raise Stop(number)
+
+
+def crc(data, width, poly):
+    r = 0
+    for b in data:
+        for i in range(7, -1, -1):
+            top = (r >> (width - 1) ^ b >> i) & 1
+            r = (r << 1) % (1 << width) ^ (poly if top else 0)
+    return r
+
+
+def signed(w, v):
+    return v if v * 2 < 1 << w else v - (1 << w)
+
+
+def low32(z):
+    return signed(32, z % (1 << 32))
+
+
+def number(s):
+    b = s.bits(8)
+    if b < 0x80:
+        return b
+    ones = 8 - (b ^ 0xFF).bit_length()
+    require(2 <= ones <= 7, 5)
+    v = b % (1 << (7 - ones))
+    for _ in range(ones - 1):
+        c = s.bits(8)
+        require(c // 64 == 2, 5)
+        v = v * 64 + c % 64
+    return v
+
+
+def header(s):
+    sync = s.bits(16)
+    require(sync // 2 == 0x7FFC, 3)
+    size = s.bits(4)
+    require(size != 0, 4)
+    rate = s.bits(4)
+    require(rate != 15, 4)
+    channels = s.bits(4)
+    require(channels <= 10, 4)
+    depth = s.bits(3)
+    require(depth != 3, 4)
+    require(depth != 7, 8)
+    require(s.bits(1) == 0, 4)
+    n = number(s)
+    require(sync % 2 == 1 or n <= 2147483647, 5)
+    if size == 1:
+        block = 192
+    elif size <= 5:
+        block = 144 << size
+    elif size == 6:
+        block = s.bits(8) + 1
+    elif size == 7:
+        block = s.bits(16) + 1
+        require(block <= 65535, 4)
+    else:
+        block = 1 << size
+    s.bits({12: 8, 13: 16, 14: 16}.get(rate, 0))
+    before = s.data[: s.at // 8]
+    require(s.bits(8) == crc(before, 8, 0x07), 6)
+    bits = [0, 8, 12, 0, 16, 20, 24][depth]
+    return channels, bits, block, n if sync % 2 else block * n
+
+
+def residual(s, warm, n):
+    method = s.bits(2)
+    require(method < 2, 4)
+    order = s.bits(4)
+    require(n % (1 << order) == 0, 9)
+    size = n >> order
+    require(warm <= size, 9)
+    out = []
+    for i in range(1 << order):
+        k = s.bits(4 + method)
+        require(k != (16 << method) - 1, 8)
+        for _ in range(size - warm if i == 0 else size):
+            q = s.zeros()
+            f = ((q << k) + s.bits(k)) % (1 << 32)
+            out.append(f // 2 if f % 2 == 0 else -1 - f // 2)
+    return out
+
+
+FIXED = [[], [1], [2, -1], [3, -3, 1], [4, -6, 4, -1]]
+
+
+def predict(cs, shift, warm, rs):
+    out = list(warm)
+    for r in rs:
+        total = sum(c * x for c, x in zip(cs, reversed(out)))
+        out.append(low32((total >> shift) + r))
+    return out
+
+
+def subframe(s, width, n):
+    require(s.bits(1) == 0, 4)
+    kind = s.bits(6)
+    require(kind < 2 or 8 <= kind <= 12 or kind >= 32, 4)
+    wasted = 0
+    if s.bits(1):
+        wasted = s.zeros() + 1
+    require(wasted <= 31 and wasted < width, 9)
+    w = width - wasted
+    order = kind - 8 if 8 <= kind <= 12 else kind - 31 if kind >= 32 else 0
+    require(order <= n, 9)
+    sample = lambda b: signed(b, s.bits(b))
+    if kind == 0:
+        xs = [sample(w)] * n
+    elif kind == 1:
+        xs = [sample(w) for _ in range(n)]
+    else:
+        warm = [sample(w) for _ in range(order)]
+        cs, shift = None, 0
+        if kind >= 32:
+            precision = s.bits(4)
+            require(precision < 15, 4)
+            shift = s.bits(5)
+            require(shift < 16, 8)
+            cs = [sample(precision + 1) for _ in range(order)]
+        xs = predict(FIXED[order] if cs is None else cs, shift, warm, residual(s, order, n))
+    return [low32(x << wasted) for x in xs]
+
+
+def join(code, n, xs):
+    a, b = xs[:n], xs[n:]
+    if code == 8:
+        return a + [low32(l - d) for l, d in zip(a, b)]
+    if code == 9:
+        return [low32(d + r) for d, r in zip(a, b)] + b
+    if code == 10:
+        m = [low32(2 * x) | (d & 1) for x, d in zip(a, b)]
+        return [low32(x + d) >> 1 for x, d in zip(m, b)] + [low32(x - d) >> 1 for x, d in zip(m, b)]
+    return xs
+
+
+def read(data, buffer):
+    """(number, consumed, first, channels, bits, block size), and the buffer afterwards."""
+    s, zeroed = Input(data), 0
+    try:
+        code, bits, block, first = header(s)
+        channels = code + 1 if code < 8 else 2
+        require(bits != 0, 8)
+        require(channels * block <= len(buffer), 7)
+        at = s.at
+        s.bits(1)
+        s.at, zeroed = at, channels * block
+        widths = [bits] * channels if code < 8 else [bits + (code == 9), bits + (code != 9)]
+        xs = [x for w in widths for x in subframe(s, w, block)]
+        s.bits(-s.at % 8)
+        before = data[: s.at // 8]
+        require(s.bits(16) == crc(before, 16, 0x8005), 10)
+        samples = join(code, block, xs)
+        return (0, s.at // 8, first, channels, bits, block), samples + buffer[zeroed:]
+    except Stop as stop:
+        n = 1 if not data else stop.number
+        return (n, 0, 0, 0, 0, 0), [0] * zeroed + buffer[zeroed:]
+
+
+def little(v, n):
+    return (v % (1 << (8 * n))).to_bytes(n, "little")
+
+
+def report(kind, r):
+    return bytes([kind]) + little(r[1], 4) + little(r[2], 8) + little(r[3], 1) + little(r[4], 1) + little(r[5], 2)
+
+
+def runner(data):
+    """What the program `runner` writes."""
+    data, out, buffer = data[:32768], [], [0] * 8192
+    while True:
+        r, buffer = read(data, buffer)
+        if r[0]:
+            return b"".join(out) + bytes([3, r[0]])
+        out.append(report(1, r))
+        out += [b"\x02" + little(x, 4) for x in buffer[: r[3] * r[5]]]
+        data = data[r[1] :]
+
+
+def read_probe(data):
+    """What the program `read_probe` writes."""
+    head = data[:8] + bytes(8 - len(data[:8]))
+    room, fill = int.from_bytes(head[:4], "little"), signed(32, int.from_bytes(head[4:], "little"))
+    if room > 65536:
+        return report(11, (11, 0, 0, 0, 0, 0))
+    r, buffer = read(data[8 : 8 + 32768], [fill] * room)
+    return report(r[0], r) + b"".join(little(x, 4) for x in buffer)
