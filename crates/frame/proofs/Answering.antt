@@ -20,13 +20,12 @@ use Rattle.error.specs.Numbers.{numberOf, refusedBy}
 use Rattle.rfc9639.specs.declared.FrameHeader.{FrameHeader}
 use Rattle.rfc9639.specs.Header.{sync, codes, header, channelCount, sampleCount, firstSample}
 use Rattle.rfc9639.specs.Frame.{Settings, body}
-use Rattle.rfc9639.specs.Read.{Report, refusal, accepted, Result, untouched, zeroed, cutShort, result, read}
+use Rattle.rfc9639.specs.Read.{accepted, Result, untouched, zeroed, cutShort, result, read}
 use Rattle.demands.proofs.Cases as cases
 use Rattle.subframe.specs.declared.Decoded.{Decoded}
 use Rattle.subframe.specs.declared.Decoded.the-variants.{Done, Refused}
 use Rattle.subframe.specs.Answers.{cleared, Left}
 use Rattle.subframe.proofs.Lending.{done-is, refused-is}
-use Rattle.frame.specs.declared.Accepted.{Accepted}
 use Rattle.frame.specs.declared.Answer.{Answer}
 use Rattle.frame.specs.Reads.{reportOf, Reads}
 

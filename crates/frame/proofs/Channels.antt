@@ -5,13 +5,13 @@ use native.Mathlib.Nat.{suc-mul, sub-zero}
 use native.Mathlib.Numerals.{add-one}
 use native.Mathlib.Omega.{arith}
 use mathlib.Core.Path.{_≡_, refl, ap, sym, _∙_}
-use mathlib.Core.List.{List, [], _∷_, _++_}
+use mathlib.Core.List.{List, [], _∷_}
 use borrow.Rule.Slice.PartMut.{midOf, putMid, same-len-mid}
 use lib.IntN.{ℤ, pos}
 use lib.ListN.{length, getD, take, drop, replicate, length-replicate, getD-replicate}
 use lib.Seq.{take-all, drop-cons, drop-length}
 use Rattle.reading.specs.declared.Place.{Place}
-use Rattle.reading.specs.Reading.{Ask, done, _>>=_, each}
+use Rattle.reading.specs.Reading.{Ask, each}
 use Rattle.reading.specs.Places.{gotAt, runAt}
 use Rattle.reading.proofs.Running.{In, stays-in, runAt-done, bind-got, behind, behind-nil, each-step, each-end}
 use Rattle.error.specs.declared.Refusal.{Refusal}
@@ -21,7 +21,7 @@ use Rattle.rfc9639.specs.declared.BlockTime.the-variants.{FrameNumber, SampleNu
 use Rattle.rfc9639.specs.declared.ChannelAssignment.{ChannelAssignment}
 use Rattle.rfc9639.specs.declared.ChannelAssignment.the-variants.{Independent, LeftSide, SideRight, MidSide}
 use Rattle.rfc9639.specs.declared.FrameHeader.{FrameHeader}
-use Rattle.rfc9639.specs.Header.{channelCount, sampleCount, firstSample}
+use Rattle.rfc9639.specs.Header.{channelCount, firstSample}
 use Rattle.rfc9639.specs.Subframe.{subframe}
 use Rattle.rfc9639.specs.Stereo.{joined}
 use Rattle.rfc9639.specs.Frame.{widths, footer, body}

@@ -1,6 +1,6 @@
 -- Any two outcomes that meet a contract are equal: the report tells the answer, and the buffer is the definition's.
 -- Assumes nothing.
-use Prim.Native.Nat.{ℕ, _≤_}
+use Prim.Native.Nat.{_≤_}
 use native.Mathlib.Omega.{arith}
 use mathlib.Core.Path.{_≡_, ap, sym, _∙_}
 use mathlib.Core.List.{List}

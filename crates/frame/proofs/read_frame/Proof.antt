@@ -1,5 +1,5 @@
 -- The whole: nothing left, no header, or what is behind the header. Assumes nothing.
-use mathlib.Core.Path.{_≡_, refl, sym}
+use mathlib.Core.Path.{refl, sym}
 use borrow.Author.Needs.{needs}
 use Rattle.header.specs.Answers.{headed, headedRefusal}
 use Rattle.header.proofs.Heading.{header-got}
