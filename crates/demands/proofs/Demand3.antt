@@ -86,6 +86,11 @@ more-room s b more lacks =
 pub written : List ℕ → ℕ → ℕ
 written s room = length (result (record { room = room }) s .front)
 
+-- they are places of the buffer
+pub written-room : (s : List ℕ) (room : ℕ) → written s room ≤ room
+unfolding written
+written-room s room = Answers.front-room (record { room = room }) s
+
 written-first : (s : List ℕ) (b : List ℤ) → take (written s (length b)) (read s b .buffer) ≡ result (record { room = length b }) s .front
 unfolding read written
 written-first s b = take-append-seam (result (record { room = length b }) s .front) _

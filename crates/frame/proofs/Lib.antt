@@ -4,3 +4,4 @@ pub mod Channels
 pub mod Footing
 pub mod Joining
 pub mod Outcome
+pub mod Taking

@@ -1,0 +1,97 @@
+-- `read_probe::run` keeps within the input and the samples: a room above theirs is refused. Assumes nothing.
+use native.Mathlib.Omega.{arith}
+use mathlib.Core.Path.{sym}
+use borrow.Author.Needs.{needs}
+use lib.ListN.{length-take}
+use lib.Seq.{length-take-le}
+use Rattle.read_probe.proofs.run.Statement.{statement}
+use Rattle.read_probe.proofs.run.Tie as tie
+
+shared-slice-read-number-of : tie.Need-shared-slice-read-number-of
+shared-slice-read-number-of c = search needs
+
+shared-slice-read-number-of-2 : tie.Need-shared-slice-read-number-of-2
+shared-slice-read-number-of-2 c = search needs
+
+shared-slice-read-number-of-3 : tie.Need-shared-slice-read-number-of-3
+shared-slice-read-number-of-3 c = search needs
+
+shared-slice-read-number-of-4 : tie.Need-shared-slice-read-number-of-4
+shared-slice-read-number-of-4 c = search needs
+
+number-of-requires : tie.Need-number-of-requires
+number-of-requires c κs = search needs
+
+shared-slice-read-sample-of : tie.Need-shared-slice-read-sample-of
+shared-slice-read-sample-of c = search needs
+
+shared-slice-read-sample-of-2 : tie.Need-shared-slice-read-sample-of-2
+shared-slice-read-sample-of-2 c = search needs
+
+shared-slice-read-sample-of-3 : tie.Need-shared-slice-read-sample-of-3
+shared-slice-read-sample-of-3 c = search needs
+
+shared-slice-read-sample-of-4 : tie.Need-shared-slice-read-sample-of-4
+shared-slice-read-sample-of-4 c = search needs
+
+sample-of-requires : tie.Need-sample-of-requires
+sample-of-requires c κs = search needs
+
+write-refusal-requires : tie.Need-write-refusal-requires
+write-refusal-requires c κs = search needs
+
+returns : tie.Need-returns
+returns c = search needs
+
+end-of-requires : tie.Need-end-of-requires
+end-of-requires c κs = search needs
+
+sub-probe : tie.Need-sub-probe
+sub-probe c = search needs
+
+part-probe-start : tie.Need-part-probe-start
+part-probe-start c = search needs
+
+part-probe-end : tie.Need-part-probe-end
+part-probe-end c = search needs
+
+slice-relend-prefix-probe : tie.Need-slice-relend-prefix-probe
+slice-relend-prefix-probe c = search needs
+
+slice-aggregate-probe : tie.Need-slice-aggregate-probe
+slice-aggregate-probe c = sym (length-take-le _ _ (search needs))
+
+probe-requires : tie.Need-probe-requires
+probe-requires c κs = simp length-take (omega arith)
+
+same-length : tie.Need-same-length
+same-length c = search needs
+
+returns-2 : tie.Need-returns-2
+returns-2 c = search needs
+
+pub run-spec : {M : Type 1} → statement M
+run-spec =
+    tie.close
+    (tie.spec
+    shared-slice-read-number-of
+    shared-slice-read-number-of-2
+    shared-slice-read-number-of-3
+    shared-slice-read-number-of-4
+    number-of-requires
+    shared-slice-read-sample-of
+    shared-slice-read-sample-of-2
+    shared-slice-read-sample-of-3
+    shared-slice-read-sample-of-4
+    sample-of-requires
+    write-refusal-requires
+    returns
+    end-of-requires
+    sub-probe
+    part-probe-start
+    part-probe-end
+    slice-relend-prefix-probe
+    slice-aggregate-probe
+    probe-requires
+    same-length
+    returns-2)

@@ -1,0 +1,88 @@
+// One read, seen from outside with every place of its buffer. Standard input, little-endian: the room (4), a fill sample (4),
+// then the frame's bytes, up to 32 KiB; bytes that are not there count as zeros of the first two. The buffer is filled, read
+// into once, and written out: the number (1), consumed (4), first sample number (8), channels (1), bits (1), block size (2),
+// then the room's samples (4 each). A room above 65,536 is answered by 11 with zeros behind it and no samples.
+use frame::Answer;
+use libc::STDIN_FILENO;
+use libc::STDOUT_FILENO;
+ghost use mathlib.Core.Path.{_≡_};
+ghost use Prim.Native.Nat.{_≤_};
+ghost use lib.ListN.{length};
+
+fn write_refusal(number: u8) {
+    let bytes = records::report(number, 0, 0, 0, 0, 0);
+    io::write_all(STDOUT_FILENO, &bytes);
+}
+
+fn write_answer(answer: Answer) {
+    match answer {
+        Answer::Frame(f) => {
+            let bytes = records::report(
+                0,
+                f.consumed as u64,
+                f.first,
+                f.channels as u64,
+                f.bits as u64,
+                f.size as u64,
+            );
+            io::write_all(STDOUT_FILENO, &bytes);
+        }
+        Answer::Refused(e) => write_refusal(error::number_of(e)),
+    }
+}
+
+fn write_samples(samples: &[i32])
+    requires { ⌜ length (now samples) ≤ 65536 ⌝ }
+{
+    let mut out = [0u8; 262144];
+    let mut i = 0;
+    while i < samples.len() {
+        let b = records::sample(samples[i]);
+        out[4 * i] = b[0];
+        out[4 * i + 1] = b[1];
+        out[4 * i + 2] = b[2];
+        out[4 * i + 3] = b[3];
+        i += 1;
+    }
+    io::write_all(STDOUT_FILENO, &out[..4 * samples.len()]);
+}
+
+fn probe(bytes: &[u8], fill: i32, samples: &mut [i32])
+    requires { ⌜ length (now samples) ≤ 65536 ⌝ }
+{
+    let mut i = 0;
+    while i < samples.len() {
+        samples[i] = fill;
+        i += 1;
+    }
+    write_answer(frame::read_frame(bytes, samples));
+    write_samples(samples);
+}
+
+// Where the frame's bytes end; they begin behind the eight of the room and the fill.
+fn end_of(n: usize) -> usize
+    requires { ⌜ n ≤ 32776 ⌝ }
+    ensures { λ r. ⌜ (8 ≤ r) × (r ≤ 32776) ⌝ }
+{
+    if n < 8 { 8 } else { n }
+}
+
+fn run(input: &[u8], n: usize, samples: &mut [i32])
+    requires { ⌜ (length (now input) ≡ 32776) × ((n ≤ length (now input)) × (length (now samples) ≡ 65536)) ⌝ }
+{
+    let room = records::number_of(input[0], input[1], input[2], input[3]) as usize;
+    let fill = records::sample_of(input[4], input[5], input[6], input[7]);
+    if samples.len() < room {
+        write_refusal(11);
+        return;
+    }
+    let end = end_of(n);
+    probe(&input[8..end], fill, &mut samples[..room]);
+}
+
+fn main() {
+    let mut input = [0u8; 32776];
+    let mut samples = [0i32; 65536];
+    let n = io::read_full(STDIN_FILENO, &mut input);
+    run(&input, n, &mut samples);
+}

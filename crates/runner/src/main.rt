@@ -1,0 +1,78 @@
+// The bench runner: reads frame after frame from up to 32 KiB of standard input into a buffer of 8,192 samples, and writes
+// records, little-endian. 01: consumed (4), first sample number (8), channels (1), bits (1), block size (2). 02, for each
+// sample in the buffer's order: the sample (4). 03: the number of the refusal (1), which ends the run.
+use frame::Accepted;
+use frame::Answer;
+use libc::STDIN_FILENO;
+use libc::STDOUT_FILENO;
+ghost use Prim.Native.Nat.{_*_, _≤_};
+ghost use lib.ListN.{length};
+
+fn write_report(f: Accepted) {
+    let bytes = records::report(
+        1,
+        f.consumed as u64,
+        f.first,
+        f.channels as u64,
+        f.bits as u64,
+        f.size as u64,
+    );
+    io::write_all(STDOUT_FILENO, &bytes);
+}
+
+// The first n samples, in one piece: a write for each would be slow.
+fn write_samples(samples: &[i32], n: usize)
+    requires { ⌜ (n ≤ length (now samples)) × (length (now samples) ≤ 8192) ⌝ }
+{
+    let mut out = [2u8; 40960];
+    let mut i = 0;
+    while i < n {
+        let b = records::sample(samples[i]);
+        out[5 * i + 1] = b[0];
+        out[5 * i + 2] = b[1];
+        out[5 * i + 3] = b[2];
+        out[5 * i + 4] = b[3];
+        i += 1;
+    }
+    io::write_all(STDOUT_FILENO, &out[..5 * n]);
+}
+
+// One frame from the front of the bytes: how many it took, or 0 where it was refused.
+fn step(bytes: &[u8], samples: &mut [i32]) -> usize
+    requires { ⌜ length (now samples) ≤ 8192 ⌝ }
+    ensures { λ r. ⌜ r ≤ length (now (bytes .entry)) ⌝ }
+{
+    let answer = frame::read_frame(bytes, samples);
+    match answer {
+        Answer::Frame(f) => {
+            write_report(f);
+            write_samples(samples, f.channels * f.size);
+            f.consumed
+        }
+        Answer::Refused(e) => {
+            io::write_all(STDOUT_FILENO, &[3, error::number_of(e)]);
+            0
+        }
+    }
+}
+
+// Frame after frame. A step that took nothing ends the run; any other leaves fewer bytes.
+fn run(bytes: &[u8], samples: &mut [i32])
+    requires { ⌜ length (now samples) ≤ 8192 ⌝ }
+{
+    let mut at = 0;
+    loop {
+        let taken = step(&bytes[at..], samples);
+        if taken == 0 {
+            return;
+        }
+        at += taken;
+    }
+}
+
+fn main() {
+    let mut bytes = [0u8; 32768];
+    let mut samples = [0i32; 8192];
+    let n = io::read_full(STDIN_FILENO, &mut bytes);
+    run(&bytes[..n], &mut samples);
+}
