@@ -103,6 +103,14 @@ def accepted(rng):
     yield "beyond-the-bits", frame(header(size=2, bits=8), [fixed([127, 128], 8, 1)])
 
 
+def differences():
+    """The inputs of docs/DIFFERENCES.md, where claxon, the RFC and this reader part."""
+    for line in open("../docs/DIFFERENCES.md"):
+        cells = [cell.strip() for cell in line.split("|")]
+        if len(cells) > 3 and cells[2].startswith("`"):
+            yield "difference-" + cells[1].replace(" ", "-").replace(",", ""), bytes.fromhex(cells[2].strip("`"))
+
+
 def cuts(name, data):
     for n in range(len(data)):
         yield f"cut-{name}-{n}", data[:n]
@@ -112,6 +120,7 @@ def runner_cases():
     rng = random.Random(9639)
     yield from refused()
     yield from accepted(rng)
+    yield from differences()
     yield from cuts("whole", WHOLE)
     yield from cuts("flac", FLAC)
 

@@ -21,7 +21,7 @@ use Rattle.rfc9639.specs.declared.ChannelAssignment.the-variants.{Independent, 
 use Rattle.rfc9639.specs.declared.FrameHeader.{FrameHeader}
 use Rattle.rfc9639.specs.CheckSums.{crc16}
 use Rattle.rfc9639.specs.Header.{header, channelCount, sampleCount}
-use Rattle.rfc9639.specs.Subframe.{subframeHeader, subframe}
+use Rattle.rfc9639.specs.Subframe.{kindAndWasted, subframeHeader, subframeBehind, subframe}
 use Rattle.rfc9639.specs.Frame.{Settings, opening, widths, padding, footer, body, Frame, frame}
 use Rattle.rfc9639.specs.Stereo.{joined}
 use Rattle.rfc9639.specs.Read.{begun}

@@ -21,7 +21,7 @@ use Rattle.rfc9639.specs.Integers.{wrapped, shiftDown, shiftUp, sample}
 use Rattle.rfc9639.specs.Header.{channelCount, sampleCount}
 use Rattle.rfc9639.specs.Residual.{rice, coded, partition, partitionSizes, residual}
 use Rattle.rfc9639.specs.Prediction.{restored, predict}
-use Rattle.rfc9639.specs.Subframe.{subframeType, wastedBits, subframeHeader, orderOf, fixed, lpc, samples, subframe}
+use Rattle.rfc9639.specs.Subframe.{subframeType, wastedBits, wastedJudged, kindAndWasted, subframeHeader, orderOf, fixed, quantization, lpcBehind, lpc, samples, subframeBehind, subframe}
 use Rattle.rfc9639.specs.Stereo.{rightOf, leftOf, doubled, leftOfMid, rightOfMid, pairwise, joined}
 use Rattle.rfc9639.specs.Frame.{Settings, opening, widths, footer, body, Frame, frame}
 use Rattle.rfc9639.specs.Read.{begun}
@@ -105,16 +105,20 @@ fixed-holds order w n h =
     holds-bind _ (counted order (sample-holds w))
     (λ warm e. holds-bind _ (residual-holds order n) (λ rs f. value (predict-length _ 0 order n warm rs e f h)))
 
+quantization-holds : Holds Listed Some quantization
+unfolding quantization
+quantization-holds =
+    holds-bind _ (holds-bits 4)
+    (λ precision _. holds-bind _ (holds-require _ 4 (omega arith))
+    (λ _ _. holds-bind _ (holds-bits 5) (λ shift _. holds-bind _ (holds-require _ 8 (omega arith)) (λ _ _. value tt))))
+
 lpc-holds : (order w n : ℕ) → order ≤ n → Holds Listed (Count n) (lpc order w n)
-unfolding lpc
+unfolding lpc lpcBehind
 lpc-holds order w n h =
     holds-bind _ (counted order (sample-holds w))
-    (λ warm e. holds-bind _ (holds-bits 4)
-    (λ precision _. holds-bind _ (holds-require _ 4 (omega arith))
-    (λ _ _. holds-bind _ (holds-bits 5)
-    (λ shift _. holds-bind _ (holds-require _ 8 (omega arith))
-    (λ _ _. holds-bind _ (counted order (sample-holds (precision + 1)))
-    (λ cs _. holds-bind _ (residual-holds order n) (λ rs f. value (predict-length cs shift order n warm rs e f h))))))))
+    (λ warm e. holds-bind _ quantization-holds
+    (λ q _. holds-bind _ (counted order (sample-holds (q .0)))
+    (λ cs _. holds-bind _ (residual-holds order n) (λ rs f. value (predict-length cs (q .1) order n warm rs e f h)))))
 
 samples-holds : (kind : SubframeType) (w n : ℕ) → orderOf kind ≤ n → Holds Listed (Count n) (samples kind w n)
 unfolding samples orderOf
@@ -137,13 +141,14 @@ unfolding wastedBits
 wasted-holds = holds-bind _ (holds-bits 1) (λ flag _. holds-if (eqb flag 0) (λ _. value tt) (λ _. holds-bind _ holds-zeros (λ z _. value tt)))
 
 subframe-header-holds : (width : ℕ) → Holds Listed Some (subframeHeader width)
-unfolding subframeHeader
+unfolding subframeHeader kindAndWasted wastedJudged
 subframe-header-holds width =
     holds-bind _ (holds-bits 1)
     (λ reserved _. holds-bind _ (holds-require _ 4 (omega arith))
     (λ _ _. holds-bind _ (holds-bits 6)
     (λ code _. holds-bind _ (type-holds code)
-    (λ kind _. holds-bind _ wasted-holds (λ wasted _. holds-bind _ (holds-require _ 9 (omega arith)) (λ _ _. value tt))))))
+    (λ kind _. holds-bind _ (holds-bind {P = Some} _ wasted-holds (λ wasted _. holds-bind _ (holds-require _ 9 (omega arith)) (λ _ _. value tt)))
+    (λ wasted _. value tt)))))
 
 -- every sample went through 32 bits
 shifted : (k n : ℕ) (xs : List ℤ) → length xs ≡ n → Sized n Sample (map (shiftUp k) xs)
@@ -154,7 +159,7 @@ shifted k n xs e = record { count = length-map xs (shiftUp k) ∙ e; every = go 
     go (y ∷ ys) = (shiftUp-fits k y, go ys)
 
 pub subframe-holds : (n width : ℕ) → Holds Listed (Sized n Sample) (subframe n width)
-unfolding subframe
+unfolding subframe subframeBehind
 subframe-holds n width =
     holds-bind _ (subframe-header-holds width)
     (λ h _. holds-bind _ (holds-require (leb (orderOf (h .kind)) n) 9 (omega arith))

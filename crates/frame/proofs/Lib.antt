@@ -1,4 +1,4 @@
--- Laws for the proofs of the frame reader, and its one outcome.
+-- Laws for the proofs of the frame reader, its one outcome, and laws for its callers.
 pub mod Answering
 pub mod Channels
 pub mod Footing

@@ -11,7 +11,7 @@ use Rattle.rfc9639.specs.Number.{followed, numberFrom, codedNumber}
 use Rattle.rfc9639.specs.Header.{assignment, bitDepth, blockSize, rateBits, timeOf, sync, sizeAndRate, depthAndZero, channelsAndBits, codes, blockTime, headerSum, headerBehind, header, channelCount, sampleCount, firstSample}
 use Rattle.rfc9639.specs.Residual.{unfolded, folded, rice, coded, partition, partitionSizes, residual}
 use Rattle.rfc9639.specs.Prediction.{dot, predicted, restored, predict, fixedCoefficients}
-use Rattle.rfc9639.specs.Subframe.{subframeType, wastedBits, subframeHeader, orderOf, fixed, lpc, samples, subframe}
+use Rattle.rfc9639.specs.Subframe.{subframeType, wastedBits, wastedJudged, kindAndWasted, subframeHeader, orderOf, fixed, quantization, lpcBehind, lpc, samples, subframeBehind, subframe}
 use Rattle.rfc9639.specs.Stereo.{rightOf, leftOf, doubled, leftOfMid, rightOfMid, pairwise, joined}
 use Rattle.rfc9639.specs.Frame.{opening, widths, padding, footer, body, frame}
 use Rattle.rfc9639.specs.Read.{Outcome, refusal, accepted, untouched, zeroed, cutShort, begun, finished, resultOf, result, read}
@@ -26,5 +26,5 @@ minus n = negℤ (pos n)
 
 -- to unfold this is to unfold the whole definition
 unfoldable pub computed : List ℕ → List ℤ → Outcome
-unfolding _>>=_ bits zeros passed require many each bitsFrom zerosFrom answer follow run bitsOfByte bitsOfBytes runAt inside toAt crcBit crcBits crc8 crc16 signed low wrapped shiftDown shiftUp sample followed numberFrom codedNumber assignment bitDepth blockSize rateBits timeOf sync sizeAndRate depthAndZero channelsAndBits codes blockTime headerSum headerBehind header channelCount sampleCount firstSample unfolded folded rice coded partition partitionSizes residual dot predicted restored predict fixedCoefficients subframeType wastedBits subframeHeader orderOf fixed lpc samples subframe rightOf leftOf doubled leftOfMid rightOfMid pairwise joined opening widths padding footer body frame refusal accepted untouched zeroed cutShort begun finished resultOf result read
+unfolding _>>=_ bits zeros passed require many each bitsFrom zerosFrom answer follow run bitsOfByte bitsOfBytes runAt inside toAt crcBit crcBits crc8 crc16 signed low wrapped shiftDown shiftUp sample followed numberFrom codedNumber assignment bitDepth blockSize rateBits timeOf sync sizeAndRate depthAndZero channelsAndBits codes blockTime headerSum headerBehind header channelCount sampleCount firstSample unfolded folded rice coded partition partitionSizes residual dot predicted restored predict fixedCoefficients subframeType wastedBits wastedJudged kindAndWasted subframeHeader orderOf fixed quantization lpcBehind lpc samples subframeBehind subframe rightOf leftOf doubled leftOfMid rightOfMid pairwise joined opening widths padding footer body frame refusal accepted untouched zeroed cutShort begun finished resultOf result read
 computed s b = read s b

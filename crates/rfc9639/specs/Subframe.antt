@@ -29,16 +29,26 @@ wastedBits = do
   flag ← bits 1
   if eqb flag 0 then done 0 else (do z ← zeros; done (z + 1))
 
--- of a channel whose samples have `width` bits
+-- judged by the width of the channel's samples
+unfoldable pub wastedJudged : ℕ → Ask ℕ
+wastedJudged width = do
+  wasted ← wastedBits
+  require (leb wasted 31 && ltb wasted width) 9
+  done wasted
+
+-- a subframe's header behind its zero bit
+unfoldable pub kindAndWasted : ℕ → Ask SubframeHeader
+kindAndWasted width = do
+  code ← bits 6
+  kind ← subframeType code
+  wasted ← wastedJudged width
+  done (record { kind = kind; wasted = wasted })
+
 unfoldable pub subframeHeader : ℕ → Ask SubframeHeader
 subframeHeader width = do
   reserved ← bits 1
   require (eqb reserved 0) 4
-  code ← bits 6
-  kind ← subframeType code
-  wasted ← wastedBits
-  require (leb wasted 31 && ltb wasted width) 9
-  done (record { kind = kind; wasted = wasted })
+  kindAndWasted width
 
 -- the samples that a predictor starts from
 unfoldable pub orderOf : SubframeType → ℕ
@@ -54,18 +64,28 @@ fixed order w n = do
   res ← residual order n
   done (predict (fixedCoefficients order) 0 warm res)
 
--- Section 9.2.6: the precision less one, of which 15 is forbidden; the shift, of which a negative one is not done; the
--- coefficients, that of the latest sample first.
-unfoldable pub lpc : ℕ → ℕ → ℕ → Ask (List ℤ)
-lpc order w n = do
-  warm ← many order (sample w)
+-- Section 9.2.6: the coefficients' precision in bits, stored less one, of which 15 is forbidden; and the shift, of which a
+-- negative one is not done.
+unfoldable pub quantization : Ask (ℕ × ℕ)
+quantization = do
   precision ← bits 4
   require (ltb precision 15) 4
   shift ← bits 5
   require (ltb shift 16) 8
-  coefficients ← many order (sample (precision + 1))
+  done (precision + 1, shift)
+
+-- the coefficients, that of the latest sample first, and what is behind them
+unfoldable pub lpcBehind : ℕ → ℕ → ℕ → List ℤ → ℕ → Ask (List ℤ)
+lpcBehind order precision shift warm n = do
+  coefficients ← many order (sample precision)
   res ← residual order n
   done (predict coefficients shift warm res)
+
+unfoldable pub lpc : ℕ → ℕ → ℕ → Ask (List ℤ)
+lpc order w n = do
+  warm ← many order (sample w)
+  (precision, shift) ← quantization
+  lpcBehind order precision shift warm n
 
 -- n samples of w bits, by kind (sections 9.2.3 to 9.2.6)
 unfoldable pub samples : SubframeType → ℕ → ℕ → Ask (List ℤ)
@@ -76,10 +96,15 @@ samples Verbatim w n = many n (sample w)
 samples (Fixed k) w n = fixed k w n
 samples (Lpc k) w n = lpc k w n
 
--- A channel of n samples. The wasted bits come off the width, and back as zeros at the end.
-unfoldable pub subframe : ℕ → ℕ → Ask (List ℤ)
-subframe n width = do
-  h ← subframeHeader width
+-- A channel of n samples behind its header. The wasted bits come off the width, and back as zeros at the end.
+unfoldable pub subframeBehind : ℕ → ℕ → SubframeHeader → Ask (List ℤ)
+subframeBehind n width h = do
   require (leb (orderOf (h .kind)) n) 9
   xs ← samples (h .kind) (width - h .wasted) n
   done (map (shiftUp (h .wasted)) xs)
+
+-- a channel of n samples of `width` bits
+unfoldable pub subframe : ℕ → ℕ → Ask (List ℤ)
+subframe n width = do
+  h ← subframeHeader width
+  subframeBehind n width h

@@ -12,7 +12,7 @@ use lib.IntN.{ℤ}
 use Rattle.reading.specs.declared.Place.{Place}
 use Rattle.reading.specs.Reading.{Ask, done, stop, ask, seen, _>>=_, bits, require, many}
 use Rattle.reading.specs.Places.{At, gotAt, refusedAt, shortAt, runAt}
-use Rattle.reading.proofs.Running.{bind-got, bind-assoc, bind-on}
+use Rattle.reading.proofs.Running.{bind-got}
 use Rattle.reading.proofs.Holding.{Holds, value, refusal, Meets, holds-at, holds-bind, holds-bits, holds-zeros, holds-require, holds-if}
 use Rattle.error.specs.declared.Refusal.{Refusal}
 use Rattle.error.specs.Numbers.{refusedBy}
@@ -20,10 +20,10 @@ use Rattle.error.proofs.Passing.{bind-refusal}
 use Rattle.rfc9639.specs.declared.SubframeType.the-variants.{Fixed, Lpc}
 use Rattle.rfc9639.specs.declared.SubframeHeader.{SubframeHeader}
 use Rattle.rfc9639.specs.Integers.{sample}
-use Rattle.rfc9639.specs.Subframe.{subframeType, wastedBits, subframeHeader, lpc, subframe}
+use Rattle.rfc9639.specs.Subframe.{subframeType, wastedBits, wastedJudged, kindAndWasted, subframeHeader, lpc, subframe, subframeBehind, quantization, lpcBehind}
 use Rattle.subframe.specs.declared.answers.HeaderRead.{HeaderRead}
 use Rattle.subframe.specs.declared.answers.Quantizer.{Quantizer}
-use Rattle.subframe.specs.Parts.{headed, subframeBehind, Orderly, Quantization, quantization, quantized, lpcBehind}
+use Rattle.subframe.specs.Parts.{headed, Orderly, Quantization, quantized}
 
 -- ---- a header and what is behind it
 
@@ -39,29 +39,14 @@ module _ (n width : ℕ) (s : List ℕ) (at : Place) where
 
 -- ---- linear prediction in its parts
 
--- the definition reads the precision and the shift in one row with what is behind them
-quantization-then : {A : Type 0} (g : Quantization → Ask A)
-    → quantization >>= g
-    ≡ bits 4 >>= (λ precision. require (ltb precision 15) 4 >>= (λ _. bits 5 >>= (λ shift. require (ltb shift 16) 8 >>= (λ _. g (precision + 1, shift)))))
-unfolding quantization _>>=_
-quantization-then g =
-    bind-assoc (bits 4) _ g
-    ∙ bind-on (bits 4)
-    (λ precision.
-    bind-assoc (require (ltb precision 15) 4) _ g
-    ∙ bind-on (require (ltb precision 15) 4) (λ _. bind-assoc (bits 5) _ g ∙ bind-on (bits 5) (λ shift. bind-assoc (require (ltb shift 16) 8) _ g)))
-
 quantized-then : ℕ → ℕ → List ℤ → Quantization → Ask (List ℤ)
 quantized-then order n warm q = lpcBehind order (q .0) (q .1) warm n
 
 module _ (order w n : ℕ) where
-  lpc-parts : lpc order w n ≡ many order (sample w) >>= (λ warm. quantization >>= quantized-then order n warm)
-  unfolding lpc lpcBehind quantized-then
-  lpc-parts = bind-on (many order (sample w)) (λ warm. sym (quantization-then (quantized-then order n warm)))
-
   module _ (s : List ℕ) (at : Place) where
     on-parts : {x : At (List ℤ)} → runAt (many order (sample w) >>= (λ warm. quantization >>= quantized-then order n warm)) s at ≡ x → runAt (lpc order w n) s at ≡ x
-    on-parts e = ap (λ t. runAt t s at) lpc-parts ∙ e
+    unfolding lpc quantized-then
+    on-parts e = e
 
     pub lpc-stops-warm : (e : Refusal) → runAt (many order (sample w)) s at ≡ refusedBy e → runAt (lpc order w n) s at ≡ refusedBy e
     lpc-stops-warm e f = on-parts (bind-refusal (many order (sample w)) s at _ e f)
@@ -110,16 +95,18 @@ holds-wasted : Holds Any (λ k. Unit {0}) wastedBits
 unfolding wastedBits
 holds-wasted = holds-bind _ (holds-bits 1) (λ v _. holds-if (eqb v 0) (λ _. value tt) (λ _. holds-bind _ holds-zeros (λ z _. value tt)))
 
+holds-judged : (width : ℕ) → Holds Any (λ k. (k ≤ 31) × (k < width)) (wastedJudged width)
+unfolding wastedJudged
+holds-judged width = holds-bind _ holds-wasted (λ k _. holds-bind _ (holds-require _ 9 tt) (λ _ t. value {a = k} (judged-true k width t)))
+
 holds-header : (width : ℕ) → Holds Any (HeaderSound width) (subframeHeader width)
-unfolding subframeHeader
+unfolding subframeHeader kindAndWasted
 holds-header width =
     holds-bind _ (holds-bits 1)
     (λ v _. holds-bind _ (holds-require _ 4 tt)
     (λ _ _. holds-bind _ (holds-bits 6)
     (λ code l. holds-bind _ (holds-type code l)
-    (λ kind o. holds-bind _ holds-wasted
-    (λ k _. holds-bind _ (holds-require _ 9 tt)
-    (λ _ t. let j = judged-true k width t in value (record { orderly = o; few = j .0; narrow = j .1 })))))))
+    (λ kind o. holds-bind _ (holds-judged width) (λ k j. value (record { orderly = o; few = j .0; narrow = j .1 }))))))
 
 module _ (width : ℕ) (s : List ℕ) (at : Place) {r : HeaderRead} (e : headed r ≡ runAt (subframeHeader width) s at) where
   pub header-got : {h : SubframeHeader} {p : Place} → r ≡ HeaderRead.Header h p → runAt (subframeHeader width) s at ≡ gotAt h p

@@ -23,14 +23,13 @@ use Rattle.rfc9639.specs.declared.SubframeHeader.{SubframeHeader}
 use Rattle.rfc9639.specs.declared.SubframeType.the-variants.{Constant}
 use Rattle.rfc9639.specs.Integers.{sample, shiftUp}
 use Rattle.rfc9639.specs.Prediction.{predict}
-use Rattle.rfc9639.specs.Subframe.{orderOf, samples, subframe}
+use Rattle.rfc9639.specs.Subframe.{orderOf, samples, subframe, subframeBehind}
 use Rattle.rfc9639.proofs.Widths.{Fits, fits-mono, signed-fits}
 use Rattle.subframe.specs.declared.Decoded.{Decoded}
 use Rattle.subframe.specs.declared.Decoded.the-variants.{Done, Refused}
 use Rattle.subframe.specs.declared.answers.Sample.{Sample}
 use Rattle.subframe.specs.declared.answers.Sample.the-variants.{Value, Short}
 use Rattle.subframe.specs.Answers.{means, sampled, decodeAt, cleared, Left}
-use Rattle.subframe.specs.Parts.{subframeBehind}
 use Rattle.subframe.proofs.Lending.{done-is, refused-is, passed-on}
 use Rattle.subframe.proofs.Behind.{Any}
 

@@ -10,7 +10,7 @@ use lib.Dec.{leb, ltb, eqb}
 use Rattle.reading.specs.declared.Place.{Place}
 use Rattle.reading.specs.Reading.{Ask, done, stop, _>>=_, _>>_, bits, zeros, require, if_then_else_}
 use Rattle.reading.specs.Places.{gotAt, refusedAt, shortAt, runAt}
-use Rattle.reading.proofs.Running.{stays-in, runAt-done, runAt-stop, bind-got, bind-short, require-holds, require-fails, bind-assoc, bind-on}
+use Rattle.reading.proofs.Running.{stays-in, runAt-done, runAt-stop, bind-got, bind-short, require-holds, require-fails}
 use Rattle.input.specs.Answers.{count}
 use Rattle.input.proofs.Laws.{count-at-most, at-most-count, count-few}
 use Rattle.error.specs.declared.Refusal.{Refusal}
@@ -18,8 +18,8 @@ use Rattle.error.proofs.Passing.{bind-refusal}
 use Rattle.error.specs.Numbers.{refusedBy}
 use Rattle.rfc9639.specs.declared.SubframeType.{SubframeType}
 use Rattle.rfc9639.specs.declared.SubframeHeader.{SubframeHeader}
-use Rattle.rfc9639.specs.Subframe.{subframeType, wastedBits, subframeHeader}
-use Rattle.subframe.specs.Parts.{wastedJudged, kindAndWasted, Quantization, quantization}
+use Rattle.rfc9639.specs.Subframe.{subframeType, wastedBits, subframeHeader, wastedJudged, kindAndWasted, quantization}
+use Rattle.subframe.specs.Parts.{Quantization}
 
 -- ---- the wasted bits
 
@@ -117,15 +117,10 @@ headerOf kind wasted = record { kind = kind; wasted = wasted }
 
 module _ (width : ℕ) where
   wasted-then : SubframeType → Ask SubframeHeader
-  wasted-then kind = wastedBits >>= (λ k. require (leb k 31 && ltb k width) 9 >> done (headerOf kind k))
+  wasted-then kind = wastedJudged width >>= (λ k. done (headerOf kind k))
 
   type-then : ℕ → Ask SubframeHeader
   type-then code = subframeType code >>= wasted-then
-
-  -- with the wasted bits judged
-  wasted-parts : (kind : SubframeType) → wasted-then kind ≡ wastedJudged width >>= (λ k. done (headerOf kind k))
-  unfolding wasted-then wastedJudged _>>=_
-  wasted-parts kind = sym (bind-assoc wastedBits _ (λ k. done (headerOf kind k)) ∙ bind-on wastedBits (λ k. bind-assoc (require (leb k 31 && ltb k width) 9) _ (λ x. done (headerOf kind x))))
 
   zero-then : ℕ → Ask SubframeHeader
   zero-then v = require (eqb v 0) 4 >> kindAndWasted width
@@ -146,8 +141,8 @@ module _ (width : ℕ) where
 
       module _ {kind : SubframeType} (f : done kind ≡ subframeType code) where
         known : runAt (kindAndWasted width) s at ≡ runAt (wastedJudged width >>= (λ k. done (headerOf kind k))) s p
-        unfolding _>>=_
-        known = typed f ∙ ap (λ t. runAt t s p) (wasted-parts kind)
+        unfolding _>>=_ wasted-then
+        known = typed f
 
         pub known-got : {k : ℕ} {q : Place} → runAt (wastedJudged width) s p ≡ gotAt k q → runAt (kindAndWasted width) s at ≡ gotAt (record { kind = kind; wasted = k }) q
         unfolding headerOf
@@ -164,7 +159,7 @@ module _ (width : ℕ) where
 
     module _ {v : ℕ} {p : Place} (e : runAt (bits 1) s at ≡ gotAt v p) where
       past-zero : runAt (subframeHeader width) s at ≡ runAt (zero-then v) s p
-      unfolding subframeHeader zero-then kindAndWasted
+      unfolding subframeHeader zero-then
       past-zero = bind-got (bits 1) s at zero-then e
 
       pub zero-not : (v ≡ 0 → ⊥) → runAt (subframeHeader width) s at ≡ refusedAt 4

@@ -12,8 +12,8 @@ use rfc9639::SubframeType;
 ghost use mathlib.Core.Path.{_≡_};
 ghost use Prim.Native.Nat.{_≤_, _<_};
 ghost use Rattle.reading.specs.Places.{runAt};
-ghost use Rattle.rfc9639.specs.Subframe.{subframeType, subframeHeader, orderOf};
-ghost use Rattle.subframe.specs.Parts.{kindTree, headed, wastedOf, wastedJudged, kindAndWasted, quantized, quantization};
+ghost use Rattle.rfc9639.specs.Subframe.{subframeType, subframeHeader, orderOf, wastedJudged, kindAndWasted, quantization};
+ghost use Rattle.subframe.specs.Parts.{kindTree, headed, wastedOf, quantized};
 
 // RFC 9639 section 9.2.1.
 fn subframe_type(code: u64) -> Kind

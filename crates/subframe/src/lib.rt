@@ -26,10 +26,10 @@ ghost use lib.IntN.{pos};
 ghost use lib.ListN.{length, take, replicate};
 ghost use mathlib.Core.List.{map};
 ghost use Rattle.reading.specs.Places.{runAt};
-ghost use Rattle.rfc9639.specs.Subframe.{fixed, lpc, samples, orderOf};
+ghost use Rattle.rfc9639.specs.Subframe.{fixed, lpc, samples, orderOf, lpcBehind, subframeBehind};
 ghost use Rattle.rfc9639.specs.Integers.{shiftUp};
 ghost use Rattle.subframe.specs.Answers.{means, Left, decodeAt};
-ghost use Rattle.subframe.specs.Parts.{lpcBehind, subframeBehind, Orderly};
+ghost use Rattle.subframe.specs.Parts.{Orderly};
 
 // The place behind what was decoded, or why it stopped.
 pub enum Decoded {

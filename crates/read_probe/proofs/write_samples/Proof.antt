@@ -1,6 +1,5 @@
 -- `read_probe::write_samples` keeps within its array, which has four bytes for each place. Assumes nothing.
 use Prim.Native.Nat.{_-_, _≤_}
-use native.Mathlib.Omega.{arith}
 use mathlib.Core.Path.{_≡_, sym}
 use borrow.Author.Needs.{needs}
 use lib.ListN.{length, length-set}

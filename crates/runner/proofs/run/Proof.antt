@@ -1,6 +1,5 @@
 -- `runner::run` ends, since each step that goes on takes a byte at least, and stays within the bytes. Assumes nothing.
 use Prim.Native.Nat.{_-_, _≤_}
-use native.Mathlib.Omega.{arith}
 use mathlib.Core.Path.{_≡_}
 use borrow.Author.Needs.{needs}
 use lib.ListN.{length}

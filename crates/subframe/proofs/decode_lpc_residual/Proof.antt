@@ -14,7 +14,7 @@ use Rattle.rfc9639.specs.Integers.{sample}
 use Rattle.rfc9639.specs.Residual.{residual}
 use Rattle.rfc9639.specs.Prediction.{predict}
 use Rattle.subframe.specs.Answers.{means}
-use Rattle.subframe.specs.Parts.{lpcBehind}
+use Rattle.rfc9639.specs.Subframe.{lpcBehind}
 use Rattle.subframe.proofs.Lending.{done-is, passed-on, second-done, second-refused, first-size, first-taken, between-long, rest-put}
 use Rattle.subframe.proofs.Channels.{predict-is, coefficients-count, coefficients-ask}
 use Rattle.subframe.proofs.decode_lpc_residual.Statement.{statement}
