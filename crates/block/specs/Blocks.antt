@@ -1,6 +1,6 @@
 -- What access to a block's samples answers. A block of `channels` times `size` samples stands channel after channel.
 use Prim.Native.Nat.{ℕ, _+_, _*_}
-use mathlib.Core.Bool.{cond, _&&_}
+use mathlib.Core.Bool.{_&&_}
 use mathlib.Core.List.{List, []}
 use lib.Dec.{leb, ltb, eqb}
 use lib.IntN.{ℤ, pos}

@@ -1,25 +1,23 @@
 -- What the definition's answer says of the two runs that it is made of, on an input, on longer ones and on beginnings of
 -- it, and with more room. Demand3.antt states what follows for `read`. Assumes nothing.
-use Prim.Native.Nat.{ℕ, zero, suc, _+_, _*_, _≤_, _<_}
-use native.Mathlib.Nat.{le-refl}
+use Prim.Native.Nat.{ℕ, zero, suc, _*_, _≤_, _<_}
 use native.Mathlib.Omega.{arith}
 use native.Mathlib.Decide.{decLe}
 use mathlib.Core.Logic.{_≢_}
 use mathlib.Core.Path.{_≡_, refl, ap, ap₂, sym, _∙_, subst}
-use mathlib.Core.List.{List, [], _∷_, _++_, append-assoc}
-use lib.IntN.{ℤ, pos}
-use lib.ListN.{length, take, drop, replicate, length-append, length-take, length-drop, length-replicate}
-use lib.Seq.{drop-append-le, take-append-seam, drop-append-seam, length-take-le}
+use mathlib.Core.List.{List, [], _∷_, _++_}
+use lib.IntN.{pos}
+use lib.ListN.{length, take, length-replicate}
 use Rattle.reading.specs.declared.Place.{Place}
 use Rattle.reading.specs.Reading.{Ask, _>>=_}
 use Rattle.reading.specs.Places.{position, placeOf, At, gotAt, refusedAt, shortAt, runAt, andThen}
 use Rattle.reading.proofs.Running.{runAt-bind, bind-refused}
 use Rattle.reading.proofs.Prefixes.{at-extended, at-forward, at-kept, at-cut}
-use Rattle.reading.proofs.Holding.{Holds, Meets, holds-at, Sized}
+use Rattle.reading.proofs.Holding.{Meets, holds-at}
 use Rattle.rfc9639.specs.declared.FrameHeader.{FrameHeader}
-use Rattle.rfc9639.specs.Header.{channelCount, sampleCount}
+use Rattle.rfc9639.specs.Header.{sampleCount}
 use Rattle.rfc9639.specs.Frame.{Settings, opening, Frame, frame}
-use Rattle.rfc9639.specs.Read.{Report, refusal, accepted, Result, untouched, zeroed, cutShort, begun, finished, resultOf, result, Outcome, read}
+use Rattle.rfc9639.specs.Read.{refusal, accepted, Result, untouched, zeroed, cutShort, begun, finished, resultOf, result}
 use Rattle.demands.proofs.Frames.{Listed}
 use Rattle.demands.proofs.Runs.{frame-begun, opening-more}
 use Rattle.demands.proofs.Samples.{Open, Whole, opening-holds, begun-holds, frame-holds}

@@ -1,18 +1,18 @@
 -- The definition's whole answer by cases: what it comes to, by the runs of the header, of the first subframe's first bit and
 -- of the body. The frame reader's code goes by these cases. Assumes nothing.
 use Prim.Native.Nat.{ℕ, _≤_, _<_}
-use mathlib.Core.Path.{_≡_, ap, ap₂, sym, _∙_}
+use mathlib.Core.Path.{_≡_, ap, ap₂, _∙_}
 use mathlib.Core.List.{List}
 use borrow.Author.Tests.{lt-ltb, le-ltb, le-leb, lt-leb}
 use lib.IntN.{ℤ}
 use Rattle.reading.specs.declared.Place.{Place}
 use Rattle.reading.specs.Reading.{Ask, done, _>>=_, bits, require}
-use Rattle.reading.specs.Places.{placeOf, At, gotAt, refusedAt, shortAt, runAt}
+use Rattle.reading.specs.Places.{placeOf, gotAt, refusedAt, shortAt, runAt}
 use Rattle.reading.proofs.Running.{stays-in, bind-got, bind-refused, bind-short, require-holds, require-fails, runAt-done}
 use Rattle.rfc9639.specs.declared.FrameHeader.{FrameHeader}
 use Rattle.rfc9639.specs.Header.{header, sampleCount}
-use Rattle.rfc9639.specs.Frame.{Settings, opening, body, Frame, frame}
-use Rattle.rfc9639.specs.Read.{accepted, Result, untouched, zeroed, cutShort, begun, finished, resultOf, result}
+use Rattle.rfc9639.specs.Frame.{Settings, opening, body, frame}
+use Rattle.rfc9639.specs.Read.{accepted, untouched, zeroed, cutShort, begun, finished, resultOf, result}
 
 module _ (set : Settings) (s : List ℕ) where
   -- a frame that did not open

@@ -2,21 +2,21 @@
 -- those that it needs; more room changes nothing but a lack of it; what the buffer held sways nothing. All of it follows
 -- from the prefix rules, which hold of every reader (reading, proofs/Prefix), and from no detail of the format.
 -- Assumes nothing.
-use Prim.Native.Nat.{ℕ, zero, suc, _+_, _*_, _≤_, _<_}
+use Prim.Native.Nat.{ℕ, zero, suc, _*_, _≤_, _<_}
 use native.Mathlib.Omega.{arith}
 use mathlib.Core.Logic.{_≢_}
 use mathlib.Core.Path.{_≡_, refl, ap, sym, _∙_, subst}
-use mathlib.Core.List.{List, [], _∷_, _++_, append-assoc}
+use mathlib.Core.List.{List, [], _++_, append-assoc}
 use lib.IntN.{ℤ}
 use lib.ListN.{length, take, drop, length-append, length-drop}
-use lib.Seq.{drop-append-le, take-append-seam, drop-append-seam, take-at, drop-at}
+use lib.Seq.{drop-append-le, take-append-seam, drop-append-seam}
 use Rattle.reading.specs.Reading.{bitsFrom, answer, follow, run, _>>=_, bits}
 use Rattle.reading.specs.Bytes.{bitsOfBytes}
 use Rattle.reading.specs.Places.{runAt, inside, toAt, placeOf}
 use Rattle.reading.proofs.Holding.{Meets, holds-at, Sized, Every}
 use Rattle.rfc9639.specs.Header.{sync, codes, header, sampleCount}
 use Rattle.rfc9639.specs.Frame.{Settings, opening, frame}
-use Rattle.rfc9639.specs.Read.{Report, refusal, accepted, Result, untouched, cutShort, begun, resultOf, result, Outcome, read}
+use Rattle.rfc9639.specs.Read.{refusal, accepted, Result, untouched, cutShort, begun, resultOf, result, Outcome, read}
 use Rattle.demands.proofs.Frames.{Listed}
 use Rattle.demands.proofs.Samples.{Sample, Whole, frame-holds}
 use Rattle.demands.proofs.Answers

@@ -1,24 +1,20 @@
 -- What holds of every header and frame that the definition reads, and by which numbers it refuses. Assumes nothing.
-use Prim.Native.Nat.{ℕ, zero, suc, _+_, _-_, _*_, _/_, _%_, _^_, _≤_, _<_}
-use native.Mathlib.Nat.{pow-suc, mul-assoc, mul-comm, mul-le-mul, le-trans, lt-of-lt-of-le, lt-of-le-of-lt, mul-le-mul-right, mul-one}
+use Prim.Native.Nat.{ℕ, zero, suc, _+_, _*_, _%_, _^_, _≤_, _<_}
+use native.Mathlib.Nat.{pow-suc, mul-assoc, mul-comm, mul-le-mul, lt-of-lt-of-le, lt-of-le-of-lt, mul-le-mul-right, mul-one}
 use native.Mathlib.Omega.{arith}
-use mathlib.Core.Path.{_≡_, refl, ap, sym, _∙_, subst}
+use mathlib.Core.Path.{_≡_, refl}
 use mathlib.Core.Bool.{Bool, true, false, cond, _||_}
-use mathlib.Core.List.{List, [], _∷_, _++_, map}
-use borrow.Author.Tests.{ltb-true, leb-true, ltb-false, leb-false, eqb-true, eqb-false}
+use borrow.Author.Tests.{ltb-true, leb-true, eqb-true}
 use lib.Dec.{leb, ltb, eqb}
-use lib.ListN.{length}
 use lib.Pow.{pow-mono, pow-pos}
-use Rattle.reading.specs.Reading.{Ask, done, stop, _>>=_, bits}
-use Rattle.reading.proofs.Holding.{Holds, value, refusal, holds-bind, holds-weaken, holds-bits, holds-zeros, holds-passed, holds-require, holds-if}
+use Rattle.reading.specs.Reading.{_>>=_, bits}
+use Rattle.reading.proofs.Holding.{Holds, value, refusal, holds-bind, holds-weaken, holds-bits, holds-passed, holds-require, holds-if}
 use Rattle.rfc9639.specs.declared.BlockTime.{BlockTime}
-use Rattle.rfc9639.specs.declared.BlockTime.the-variants.{FrameNumber, SampleNumber}
-use Rattle.rfc9639.specs.declared.ChannelAssignment.{ChannelAssignment}
 use Rattle.rfc9639.specs.declared.ChannelAssignment.the-variants.{Independent, LeftSide, SideRight, MidSide}
 use Rattle.rfc9639.specs.declared.Codes.{Codes}
 use Rattle.rfc9639.specs.declared.FrameHeader.{FrameHeader}
 use Rattle.rfc9639.specs.Number.{followed, numberFrom, codedNumber}
-use Rattle.rfc9639.specs.Header.{assignment, bitDepth, blockSize, rateBits, timeOf, sync, sizeAndRate, depthAndZero, channelsAndBits, codes, blockTime, headerSum, headerBehind, header, channelCount, sampleCount, firstSample}
+use Rattle.rfc9639.specs.Header.{assignment, bitDepth, blockSize, rateBits, timeOf, sync, sizeAndRate, depthAndZero, channelsAndBits, codes, blockTime, headerSum, headerBehind, header, channelCount, firstSample}
 
 -- the refusals of document 01 that a frame can have
 abbrev pub Listed : ℕ → Type 0

@@ -1,13 +1,13 @@
 -- How the runs of a frame's readers hang together: a frame ends at the start of a byte; one that was read had begun; more
 -- room changes a run only where there was none. Assumes nothing.
-use Prim.Native.Nat.{ℕ, zero, suc, _+_, _-_, _*_, _/_, _%_, _^_, _≤_, _<_}
+use Prim.Native.Nat.{ℕ, zero, suc, _-_, _%_, _≤_}
 use native.Mathlib.Nat.{le-trans}
 use native.Mathlib.Omega.{arith}
-use mathlib.Core.Path.{_≡_, refl, ap, sym, _∙_, subst}
-use mathlib.Core.Bool.{Bool, true, false, cond}
-use mathlib.Core.List.{List, [], _∷_, _++_}
+use mathlib.Core.Path.{_≡_, refl, ap, sym, _∙_}
+use mathlib.Core.Bool.{Bool, true, false}
+use mathlib.Core.List.{List}
 use borrow.Author.Tests.{leb-true, le-leb}
-use lib.Dec.{leb, ltb, eqb}
+use lib.Dec.{leb, ltb}
 use lib.IntN.{ℤ}
 use lib.ListN.{length, take}
 use Rattle.reading.specs.declared.Place.{Place}
@@ -19,9 +19,8 @@ use Rattle.reading.proofs.Prefixes.{passed-at, passed-length}
 use Rattle.rfc9639.specs.declared.ChannelAssignment.{ChannelAssignment}
 use Rattle.rfc9639.specs.declared.ChannelAssignment.the-variants.{Independent, LeftSide, SideRight, MidSide}
 use Rattle.rfc9639.specs.declared.FrameHeader.{FrameHeader}
-use Rattle.rfc9639.specs.CheckSums.{crc16}
 use Rattle.rfc9639.specs.Header.{header, channelCount, sampleCount}
-use Rattle.rfc9639.specs.Subframe.{kindAndWasted, subframeHeader, subframeBehind, subframe}
+use Rattle.rfc9639.specs.Subframe.{subframeHeader, subframe}
 use Rattle.rfc9639.specs.Frame.{Settings, opening, widths, padding, footer, body, Frame, frame}
 use Rattle.rfc9639.specs.Stereo.{joined}
 use Rattle.rfc9639.specs.Read.{begun}

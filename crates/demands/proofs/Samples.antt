@@ -1,23 +1,22 @@
 -- A frame's samples number N, and each fits 32 bits; what stands first in the buffer afterwards has room. Assumes nothing.
-use Prim.Native.Nat.{ℕ, zero, suc, _+_, _-_, _*_, _/_, _%_, _^_, _≤_, _<_}
+use Prim.Native.Nat.{ℕ, zero, suc, _+_, _-_, _*_, _/_, _%_, _^_, _≤_}
 use native.Mathlib.Nat.{div-add-mod', add-comm, mul-comm, zero-mul, suc-mul}
 use native.Mathlib.Omega.{arith}
-use mathlib.Core.Path.{_≡_, refl, ap, ap₂, sym, _∙_, subst}
-use mathlib.Core.Bool.{Bool, true, false, cond, _&&_}
+use mathlib.Core.Path.{_≡_, refl, ap, ap₂, sym, _∙_}
 use mathlib.Core.List.{List, [], _∷_, _++_, map, reverse}
 use borrow.Author.Tests.{ltb-true, leb-true, eqb-true}
 use lib.Dec.{leb, ltb, eqb}
 use lib.IntN.{ℤ, _+ℤ_, _-ℤ_}
 use lib.ListN.{length, take, drop, replicate, length-append, length-map, length-replicate, length-take, length-drop}
 use lib.Pow.{suc-ones}
-use Rattle.reading.specs.Reading.{Ask, done, stop, _>>=_, bits, many, each}
+use Rattle.reading.specs.Reading.{Ask, _>>=_, bits, many}
 use Rattle.reading.proofs.Holding.{Holds, value, refusal, holds-bind, holds-weaken, holds-bits, holds-zeros, holds-passed, holds-require, holds-if, Every, every-append, every-take, every-drop, Sized, total, holds-many, holds-each}
 use Rattle.rfc9639.specs.declared.ChannelAssignment.{ChannelAssignment}
 use Rattle.rfc9639.specs.declared.ChannelAssignment.the-variants.{Independent, LeftSide, SideRight, MidSide}
 use Rattle.rfc9639.specs.declared.SubframeType.{SubframeType}
 use Rattle.rfc9639.specs.declared.SubframeType.the-variants.{Constant, Verbatim, Fixed, Lpc}
 use Rattle.rfc9639.specs.declared.FrameHeader.{FrameHeader}
-use Rattle.rfc9639.specs.Integers.{wrapped, shiftDown, shiftUp, sample}
+use Rattle.rfc9639.specs.Integers.{shiftUp, sample}
 use Rattle.rfc9639.specs.Header.{channelCount, sampleCount}
 use Rattle.rfc9639.specs.Residual.{rice, coded, partition, partitionSizes, residual}
 use Rattle.rfc9639.specs.Prediction.{restored, predict}

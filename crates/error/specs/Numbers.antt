@@ -1,6 +1,5 @@
 -- The number of each refusal: what the definition's `stop` and a report carry.
 use Prim.Native.Nat.{ℕ}
-use mathlib.Core.Bool.{cond}
 use lib.Dec.{eqb}
 use Rattle.reading.specs.Reading.{if_then_else_}
 use Rattle.reading.specs.Places.{At, refusedAt, shortAt}

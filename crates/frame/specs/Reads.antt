@@ -1,11 +1,9 @@
 -- The reader's answer in document 01's numbers and values, and what it has to be.
-use Prim.Native.Nat.{ℕ}
 use mathlib.Core.Path.{_≡_}
 use mathlib.Core.List.{List}
 use lib.IntN.{ℤ}
 use Rattle.error.specs.Numbers.{numberOf}
 use Rattle.rfc9639.specs.Read.{Report, refusal, Outcome}
-use Rattle.frame.specs.declared.Accepted.{Accepted}
 use Rattle.frame.specs.declared.Answer.{Answer}
 
 abbrev pub reportOf : Answer → Report

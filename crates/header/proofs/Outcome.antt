@@ -2,11 +2,9 @@
 use mathlib.Core.Path.{_≡_, ap, sym, _∙_}
 use mathlib.Core.List.{List}
 use Prim.Native.Nat.{ℕ}
-use Rattle.reading.specs.declared.Place.{Place}
-use Rattle.reading.specs.Places.{gotAt, runAt, placeOf}
+use Rattle.reading.specs.Places.{runAt, placeOf}
 use Rattle.error.specs.declared.Refusal.{Refusal}
 use Rattle.error.proofs.Passing.{refused-one, got-not-refused}
-use Rattle.rfc9639.specs.declared.FrameHeader.{FrameHeader}
 use Rattle.rfc9639.specs.Header.{header}
 use Rattle.header.specs.declared.HeaderRead.{HeaderRead}
 use Rattle.header.specs.declared.HeaderRead.the-variants.{Header, Refused}

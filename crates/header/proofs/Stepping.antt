@@ -2,14 +2,13 @@
 use Prim.Native.Nat.{ℕ}
 use native.Mathlib.Omega.{arith}
 use mathlib.Core.Path.{_≡_, ap, sym, _∙_, subst}
-use mathlib.Core.Bool.{Bool, true, false, cond}
+use mathlib.Core.Bool.{Bool, true, false}
 use mathlib.Core.List.{List}
 use borrow.Author.Tests.{ne-eqb}
-use lib.Dec.{eqb}
 use Rattle.reading.specs.declared.Place.{Place}
 use Rattle.reading.specs.Reading.{Ask, done, stop, _>>=_, _>>_, require}
-use Rattle.reading.specs.Places.{At, gotAt, refusedAt, shortAt, runAt}
-use Rattle.reading.proofs.Running.{In, stays-in, runAt-done, runAt-stop, bind-got, bind-short, bind-refused, require-holds, require-fails}
+use Rattle.reading.specs.Places.{At, gotAt, refusedAt, runAt}
+use Rattle.reading.proofs.Running.{In, stays-in, runAt-done, runAt-stop, bind-got, bind-refused, require-holds, require-fails}
 use Rattle.reading.proofs.Holding.{Holds, Meets, holds-at}
 use Rattle.error.specs.declared.Refusal.{Refusal}
 use Rattle.error.specs.Numbers.{numberOf, refusedBy}

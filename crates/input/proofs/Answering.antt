@@ -1,12 +1,12 @@
 -- What a question gets at a place, with a function over the number: what the loops end with. Assumes nothing.
 use Prim.Native.Nat.{ℕ}
 use mathlib.Core.Path.{_≡_, refl, ap}
-use mathlib.Core.Bool.{Bool, false}
+use mathlib.Core.Bool.{false}
 use mathlib.Core.List.{List}
 use Rattle.reading.specs.declared.Place.{Place}
 use Rattle.reading.specs.Reading.{Question, Ask, ask, done, Answer, found, cut, answer}
 use Rattle.reading.specs.Bytes.{bitsOfBytes}
-use Rattle.reading.specs.Places.{At, gotAt, refusedAt, shortAt, runAt, inside, position, placeOf}
+use Rattle.reading.specs.Places.{At, gotAt, shortAt, runAt, inside, position, placeOf}
 use Rattle.reading.proofs.Running.{In, runAt-ask, runAt-out, ofAnswer}
 use Rattle.input.specs.Answers.{mapAt}
 

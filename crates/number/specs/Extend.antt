@@ -1,6 +1,5 @@
 -- Sign extension at every width.
 use Prim.Native.Nat.{ℕ}
-use mathlib.Core.Bool.{cond}
 use lib.Dec.{leb}
 use lib.IntN.{ℤ, pos}
 use Rattle.reading.specs.Reading.{if_then_else_}

@@ -1,13 +1,12 @@
 -- What holds of everything that a reader gets, and of each number that it refuses by, whatever the input: read off the
 -- tree. n bits answer a number below 2 ^ n; of the zeros and of the bits passed nothing is known. Assumes nothing.
-use Prim.Native.Nat.{ℕ, zero, suc, _+_, _*_, _^_, _≤_, _<_}
-use native.Mathlib.Omega.{arith}
-use mathlib.Core.Path.{_≡_, refl, ap, ap₂, sym, _∙_, subst}
+use Prim.Native.Nat.{ℕ, zero, suc, _+_, _^_, _<_}
+use mathlib.Core.Path.{_≡_, refl, ap, ap₂, _∙_}
 use mathlib.Core.Bool.{Bool, true, false, cond}
 use mathlib.Core.List.{List, [], _∷_, _++_}
-use lib.ListN.{length, take, drop, replicate, length-append}
+use lib.ListN.{length, take, drop, length-append}
 use Rattle.reading.specs.declared.Place.{Place}
-use Rattle.reading.specs.Reading.{Question, nextBits, nextZeros, Ask, done, stop, ask, seen, _>>=_, bits, zeros, passed, require, many, each, Answer, found, cut, bitsFrom, answer, Got, got, refused, short, follow, run}
+use Rattle.reading.specs.Reading.{nextBits, nextZeros, Ask, done, stop, ask, seen, _>>=_, bits, zeros, passed, require, many, each, Answer, found, cut, bitsFrom, answer, Got, follow, run}
 use Rattle.reading.specs.Bytes.{bitsOfBytes}
 use Rattle.reading.specs.Places.{position, inside, At, gotAt, refusedAt, shortAt, toAt, runAt}
 use Rattle.reading.proofs.Bits.{bits-bound}

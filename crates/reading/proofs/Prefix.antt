@@ -1,12 +1,11 @@
 -- The prefix rules, once for every reader: what a reader does is settled by the bits that it passed.
-use Prim.Native.Nat.{ℕ, zero, suc, _+_, _*_, _-_, _≤_, _<_, zero-le, suc-le-suc}
-use native.Mathlib.Nat.{le-refl, add-zero, zero-add, suc-add, add-suc}
+use Prim.Native.Nat.{ℕ, zero, suc, _+_, _*_, _≤_, _<_, zero-le, suc-le-suc}
+use native.Mathlib.Nat.{add-zero, zero-add, suc-add}
 use native.Mathlib.Omega.{arith}
-use native.Mathlib.Decide.{decLe}
 use mathlib.Core.Path.{_≡_, refl, ap, sym, _∙_, subst}
 use mathlib.Core.List.{List, [], _∷_, _++_}
 use lib.ListN.{length, take, drop, length-drop, length-take, take-append-drop}
-use lib.Seq.{take-take, take-append-le, take-nil, drop-nil}
+use lib.Seq.{take-take, take-append-le, take-nil}
 use Rattle.reading.specs.Reading.{Question, nextBits, nextZeros, Ask, done, stop, ask, seen, Answer, found, cut, bitsFrom, zerosFrom, answer, Got, got, refused, short, follow, run}
 
 -- where a run ended

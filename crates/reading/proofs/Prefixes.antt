@@ -1,16 +1,15 @@
 -- The prefix rules on bytes, from a place: what was got or refused stays so whatever follows; the bytes up to the place behind suffice; fewer are short.
-use Prim.Native.Nat.{ℕ, zero, suc, _+_, _*_, _-_, _≤_, _<_}
-use native.Mathlib.Nat.{zero-add, le-refl}
+use Prim.Native.Nat.{ℕ, zero, suc, _+_, _*_, _≤_, _<_}
 use native.Mathlib.Omega.{arith}
-use mathlib.Core.Path.{_≡_, refl, ap, ap₂, sym, _∙_, subst}
+use mathlib.Core.Path.{_≡_, refl, ap, sym, _∙_, subst}
 use mathlib.Core.Bool.{Bool, true, false, cond}
 use mathlib.Core.List.{List, [], _∷_, _++_, append-assoc}
-use lib.ListN.{length, take, drop, length-take, length-append}
+use lib.ListN.{length, take, length-take, length-append}
 use lib.Seq.{take-append-add}
 use Rattle.reading.specs.declared.Place.{Place}
 use Rattle.reading.specs.Reading.{Ask, passed, Got, got, refused, short, run}
 use Rattle.reading.specs.Bytes.{bitsOfByte, bitsOfBytes}
-use Rattle.reading.specs.Places.{position, placeOf, inside, At, gotAt, refusedAt, shortAt, toAt, runAt}
+use Rattle.reading.specs.Places.{position, placeOf, inside, gotAt, shortAt, toAt, runAt}
 use Rattle.reading.proofs.Prefix.{Ends, settled, extended, kept, cut-short}
 use Rattle.reading.proofs.Bits.{length-bits}
 use Rattle.reading.proofs.Running.{In, inside-in, runAt-in, runAt-out, place-position, position-place}

@@ -1,16 +1,16 @@
 -- Laws of runs on bytes, from a place: where a run may start and end, one reader behind another, the same reader many
 -- times, a reader for each of some things. The functions that read cite these and never the text of `run`.
 -- Assumes nothing.
-use Prim.Native.Nat.{ℕ, zero, suc, _+_, _*_, _-_, _/_, _%_, _^_, _≤_, _<_}
+use Prim.Native.Nat.{ℕ, suc, _+_, _*_, _^_, _≤_, _<_}
 use native.Mathlib.Omega.{arith}
 use mathlib.Core.Path.{_≡_, refl, ap, ap₂, sym, _∙_, subst, fun-ext}
 use mathlib.Core.Bool.{Bool, true, false, _&&_, cond}
 use mathlib.Core.List.{List, [], _∷_, _++_, append-assoc, append-nil}
 use borrow.Author.Tests.{ltb-true, leb-true, lt-ltb, le-leb, le-ltb, lt-leb}
-use lib.Dec.{leb, ltb}
+use lib.Dec.{ltb}
 use lib.ListN.{length, take}
 use Rattle.reading.specs.declared.Place.{Place}
-use Rattle.reading.specs.Reading.{Question, nextBits, nextZeros, Ask, done, stop, ask, seen, _>>=_, bits, zeros, passed, require, many, each, Answer, found, cut, answer, Got, got, refused, short, follow, run}
+use Rattle.reading.specs.Reading.{Question, nextBits, Ask, done, stop, ask, seen, _>>=_, bits, require, many, each, Answer, found, cut, answer, Got, got, refused, short, follow, run}
 use Rattle.reading.specs.Bytes.{bitsOfBytes}
 use Rattle.reading.specs.Places.{position, placeOf, inside, At, gotAt, refusedAt, shortAt, toAt, runAt, andThen}
 use Rattle.reading.proofs.Prefix.{settled, Ends}

@@ -2,7 +2,7 @@
 -- the bits that it has passed, be done, or stop: so what it answers is settled by the bits that it passed, whatever the
 -- format (proofs/Prefix.antt).
 use Prim.Native.Nat.{ℕ, zero, suc, _+_, _*_}
-use mathlib.Core.Bool.{Bool, true, false, cond}
+use mathlib.Core.Bool.{Bool, cond}
 use mathlib.Core.List.{List, [], _∷_, _++_}
 use lib.ListN.{take, drop}
 

@@ -1,10 +1,10 @@
 -- The cases that document 01 marks (P), under one claim. Assumes nothing.
-use Prim.Native.Nat.{ℕ, _*_, _^_, _<_}
+use Prim.Native.Nat.{ℕ, _^_, _<_}
 use native.Mathlib.Omega.{arith}
 use mathlib.Core.Path.{_≡_, refl}
-use mathlib.Core.List.{List, [], _∷_, map}
-use lib.IntN.{ℤ, pos}
-use Rattle.reading.specs.Places.{At, gotAt, refusedAt, runAt, placeOf}
+use mathlib.Core.List.{[], _∷_, map}
+use lib.IntN.{pos}
+use Rattle.reading.specs.Places.{gotAt, refusedAt, runAt, placeOf}
 use Rattle.rfc9639.specs.Integers.{signed}
 use Rattle.rfc9639.specs.Number.{codedNumber}
 use Rattle.rfc9639.specs.Residual.{unfolded, folded, partition}

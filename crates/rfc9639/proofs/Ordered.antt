@@ -5,7 +5,7 @@ use mathlib.Core.Path.{_≡_, refl}
 use mathlib.Core.List.{List, [], _++_}
 use lib.IntN.{pos}
 use lib.ListN.{replicate}
-use Rattle.rfc9639.specs.Read.{Outcome, refusal, read}
+use Rattle.rfc9639.specs.Read.{refusal, read}
 use Rattle.rfc9639.proofs.Computing.{hex, computed}
 
 -- refused by a number, the buffer of some sevens untouched

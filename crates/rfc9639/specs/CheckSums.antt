@@ -1,7 +1,6 @@
 -- The check sums (RFC 9639 sections 9.1.8 and 9.3): the remainder of the bits, most significant first and with as many
 -- zeros behind them as the sum is wide, by a polynomial over the field of two elements.
 use Prim.Native.Nat.{ℕ, _+_, _-_, _*_, _/_, _%_, _^_}
-use mathlib.Core.Bool.{cond}
 use mathlib.Core.List.{List, [], _∷_}
 use lib.Bits.{bitXor}
 use lib.Dec.{eqb}

@@ -1,8 +1,7 @@
 -- The frame header (RFC 9639 section 9.1), with its checks in the order of the fields, each as soon as its field is
 -- there. A refusal's number is document 01's.
-use Prim.Native.Nat.{ℕ, suc, _+_, _*_, _/_, _%_, _^_}
-use mathlib.Core.Bool.{Bool, true, false, cond, not, _||_}
-use mathlib.Core.List.{List}
+use Prim.Native.Nat.{ℕ, _+_, _*_, _/_, _%_, _^_}
+use mathlib.Core.Bool.{_||_}
 use lib.Dec.{leb, ltb, eqb}
 use Rattle.reading.specs.Reading.{Ask, done, stop, _>>=_, _>>_, bits, passed, require, if_then_else_}
 use Rattle.rfc9639.specs.declared.BlockTime.{BlockTime}

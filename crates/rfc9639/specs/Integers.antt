@@ -1,7 +1,6 @@
 -- Numbers of w bits in two's complement. Prediction and joining of channels are exact in ℤ: `wrapped` is the one place
 -- where a width enters.
-use Prim.Native.Nat.{ℕ, suc, _+_, _-_, _*_, _/_, _%_, _^_}
-use mathlib.Core.Bool.{cond}
+use Prim.Native.Nat.{ℕ, suc, _-_, _*_, _/_, _%_, _^_}
 use lib.Dec.{ltb}
 use lib.IntN.{ℤ, pos, negsuc, _*ℤ_}
 use Rattle.reading.specs.Reading.{Ask, done, _>>=_, bits, if_then_else_}

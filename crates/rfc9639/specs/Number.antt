@@ -1,7 +1,6 @@
 -- The coded number (RFC 9639 section 9.1.5), one to seven bytes. Overlong forms are read. The RFC stops at 36 bits, so
 -- no number starts with FF.
 use Prim.Native.Nat.{ℕ, zero, suc, _+_, _*_, _/_, _%_}
-use mathlib.Core.Bool.{cond}
 use lib.Dec.{ltb, eqb}
 use Rattle.reading.specs.Reading.{Ask, done, stop, _>>=_, _>>_, bits, require, if_then_else_}
 

@@ -1,6 +1,5 @@
 -- Prediction (RFC 9639 sections 9.2.5 and 9.2.6): exact in ℤ, then 32 bits of the sample are kept.
 use Prim.Native.Nat.{ℕ}
-use mathlib.Core.Bool.{cond}
 use mathlib.Core.List.{List, [], _∷_, _++_, reverse}
 use lib.Dec.{eqb}
 use lib.IntN.{ℤ, pos, negsuc, _+ℤ_, _*ℤ_}

@@ -1,5 +1,5 @@
 -- The whole answer: what a reader reports of some bytes, and what the lent samples hold afterwards.
-use Prim.Native.Nat.{ℕ, zero, suc}
+use Prim.Native.Nat.{ℕ}
 use mathlib.Core.List.{List, [], _∷_, _++_}
 use lib.IntN.{ℤ, pos}
 use lib.ListN.{length, replicate, drop}

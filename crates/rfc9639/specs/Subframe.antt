@@ -1,15 +1,15 @@
 -- The subframe (RFC 9639 section 9.2): one channel of a block.
-use Prim.Native.Nat.{ℕ, suc, _+_, _-_, _≤_, _*_, _%_}
-use mathlib.Core.Bool.{Bool, cond, not, _&&_, _||_}
+use Prim.Native.Nat.{ℕ, _+_, _-_}
+use mathlib.Core.Bool.{_&&_}
 use mathlib.Core.List.{List, map}
 use lib.Dec.{leb, ltb, eqb}
-use lib.IntN.{ℤ, pos}
+use lib.IntN.{ℤ}
 use lib.ListN.{replicate}
 use Rattle.reading.specs.Reading.{Ask, done, stop, _>>=_, _>>_, bits, zeros, require, many, if_then_else_}
 use Rattle.rfc9639.specs.declared.SubframeType.{SubframeType}
 use Rattle.rfc9639.specs.declared.SubframeType.the-variants.{Constant, Verbatim, Fixed, Lpc}
 use Rattle.rfc9639.specs.declared.SubframeHeader.{SubframeHeader}
-use Rattle.rfc9639.specs.Integers.{signed, sample, shiftUp}
+use Rattle.rfc9639.specs.Integers.{sample, shiftUp}
 use Rattle.rfc9639.specs.Residual.{residual}
 use Rattle.rfc9639.specs.Prediction.{predict, fixedCoefficients}
 

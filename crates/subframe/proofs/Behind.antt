@@ -1,17 +1,17 @@
 -- The definition of a channel in the parts that the functions take (specs/Parts.antt): a header, then what is behind it;
 -- a predictor's warm-up, its precision and shift, then what is behind them. A part that stops, stops the whole. And what
 -- a header, and a quantization, can tell. Assumes nothing.
-use Prim.Native.Nat.{ℕ, _+_, _-_, _^_, _≤_, _<_}
+use Prim.Native.Nat.{ℕ, _-_, _^_, _≤_, _<_}
 use native.Mathlib.Omega.{arith}
-use mathlib.Core.Path.{_≡_, refl, ap, sym, _∙_, subst, fun-ext}
-use mathlib.Core.Bool.{Bool, true, false, _&&_, cond}
+use mathlib.Core.Path.{_≡_, refl, ap, sym, _∙_, subst}
+use mathlib.Core.Bool.{Bool, true, false, _&&_}
 use mathlib.Core.List.{List}
 use borrow.Author.Tests.{ltb-true, leb-true}
 use lib.Dec.{leb, ltb, eqb}
 use lib.IntN.{ℤ}
 use Rattle.reading.specs.declared.Place.{Place}
-use Rattle.reading.specs.Reading.{Ask, done, stop, ask, seen, _>>=_, bits, require, many}
-use Rattle.reading.specs.Places.{At, gotAt, refusedAt, shortAt, runAt}
+use Rattle.reading.specs.Reading.{Ask, _>>=_, many}
+use Rattle.reading.specs.Places.{At, gotAt, runAt}
 use Rattle.reading.proofs.Running.{bind-got}
 use Rattle.reading.proofs.Holding.{Holds, value, refusal, Meets, holds-at, holds-bind, holds-bits, holds-zeros, holds-require, holds-if}
 use Rattle.error.specs.declared.Refusal.{Refusal}

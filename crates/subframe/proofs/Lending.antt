@@ -14,7 +14,7 @@ use lib.Seq.{take-at, drop-at, drop-length, length-take-le, length-front}
 use Rattle.reading.specs.declared.Place.{Place}
 use Rattle.reading.specs.Reading.{Ask, done, _>>=_}
 use Rattle.reading.specs.Places.{At, gotAt, refusedAt, shortAt, runAt}
-use Rattle.reading.proofs.Running.{stays-in, runAt-done, bind-got, bind-refused, bind-short, behind}
+use Rattle.reading.proofs.Running.{stays-in, runAt-done, bind-got, behind}
 use Rattle.error.specs.declared.Refusal.{Refusal}
 use Rattle.error.specs.Numbers.{numberOf, refusedBy}
 use Rattle.error.proofs.Passing.{bind-refusal}

@@ -1,7 +1,7 @@
 -- The word that the loop makes is the last 64 bits of what the question gets. The invariant (Unread): what is still to
 -- be read from here makes the answer. Assumes nothing.
 use native.Mathlib.Omega.{arith}
-use mathlib.Core.Path.{sym, refl}
+use mathlib.Core.Path.{sym}
 use borrow.Author.Needs.{needs}
 use borrow.Author.Tests.{not-true, not-false}
 use Rattle.reading.proofs.Running.{inside-in}
