@@ -103,6 +103,17 @@ def accepted(rng):
     yield "beyond-the-bits", frame(header(size=2, bits=8), [fixed([127, 128], 8, 1)])
 
 
+def claxon_sides():
+    """The data of claxon's verify_decode_left_side, _right_side and _mid_side, as frames of 8 bits; its results are held to."""
+    left, right = [2, 5, 83, 113, 127, -63, -45, -15], [-5, -33, -59, -125, 127, 89, 7, 3]
+    side, mid = [7, 38, 142, 238, 0, -152, -52, -18], [-2, -14, 12, -6, 127, 13, -19, -6]
+    for name, code, first, second in [("left", 8, left, side), ("right", 9, side, right), ("mid", 10, mid, side)]:
+        widths = [8 + (code == 9), 8 + (code != 9)]
+        data = frame(header(size=8, bits=8, channels=code), [verbatim(first, widths[0]), verbatim(second, widths[1])])
+        assert model.read(data, [0] * 16)[1] == left + right
+        yield f"claxon-{name}-side", data
+
+
 def differences():
     """The inputs of docs/DIFFERENCES.md, where claxon, the RFC and this reader part."""
     for line in open("../docs/DIFFERENCES.md"):
@@ -120,6 +131,7 @@ def runner_cases():
     rng = random.Random(9639)
     yield from refused()
     yield from accepted(rng)
+    yield from claxon_sides()
     yield from differences()
     yield from cuts("whole", WHOLE)
     yield from cuts("flac", FLAC)
