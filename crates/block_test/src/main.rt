@@ -1,4 +1,4 @@
-// The functions of `frame::block` on claxon's test data, and each of their refusals. Prints a line for each case, which ends
+// The functions of `block` on claxon's test data, and each of their refusals. Prints a line for each case, which ends
 // with `ok` where the answer is the one that the line names.
 use block::Block;
 use block::PairAt;

@@ -1,4 +1,4 @@
--- The definition of a channel in the parts that the functions take (specs/Parts.antt): a header, then what is behind it;
+-- The definition of a channel in the parts that the functions take (rfc9639, specs/Subframe.antt): a header, then what is behind it;
 -- a predictor's warm-up, its precision and shift, then what is behind them. A part that stops, stops the whole. And what
 -- a header, and a quantization, can tell. Assumes nothing.
 use Prim.Native.Nat.{ℕ, _-_, _^_, _≤_, _<_}
