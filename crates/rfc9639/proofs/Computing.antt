@@ -14,6 +14,10 @@ use Rattle.rfc9639.specs.Prediction.{dot, predicted, restored, predict, 
 use Rattle.rfc9639.specs.Subframe.{subframeType, wastedBits, wastedJudged, kindAndWasted, subframeHeader, orderOf, fixed, quantization, lpcBehind, lpc, samples, subframeBehind, subframe}
 use Rattle.rfc9639.specs.Stereo.{rightOf, leftOf, doubled, leftOfMid, rightOfMid, pairwise, joined}
 use Rattle.rfc9639.specs.Frame.{opening, widths, padding, footer, body, frame}
+use Rattle.reading.specs.Spelling.{bitsOf, unary, row, spelt, bytesOf, packed}
+use Rattle.rfc9639.specs.declared.FrameSetting.{FrameSetting}
+use Rattle.rfc9639.specs.Coding.{fold, riceBits, residualBits, residuals, fixedResiduals, plain, subframeHead, codedAs, same, uniform, counting, fixedOnes, candidates, fewestOf, fewest, cost, chosen, subframeBits}
+use Rattle.rfc9639.specs.Write.{Written, sizeCode, sizeBits, bitsCode, followers, numberBytes, codeBits, fieldBits, headerBits, laneOf, lanes, laneWidth, midOf, sideOf, channel, stored, laneBits, subframesBits, padded, footed, frameBits, frameBytes, writable, numberLimit, allowed, fits, allFit, unwritten, write}
 use Rattle.rfc9639.specs.Read.{Outcome, refusal, accepted, untouched, zeroed, cutShort, begun, finished, resultOf, result, read}
 
 -- the n bytes of a number, as a dump shows them
@@ -28,3 +32,8 @@ minus n = negℤ (pos n)
 unfoldable pub computed : List ℕ → List ℤ → Outcome
 unfolding _>>=_ bits zeros passed require many each bitsFrom zerosFrom answer follow run bitsOfByte bitsOfBytes runAt inside toAt crcBit crcBits crc8 crc16 signed low wrapped shiftDown shiftUp sample followed numberFrom codedNumber assignment bitDepth blockSize rateBits timeOf sync sizeAndRate depthAndZero channelsAndBits codes blockTime headerSum headerBehind header channelCount sampleCount firstSample unfolded folded rice coded partition partitionSizes residual dot predicted restored predict fixedCoefficients subframeType wastedBits wastedJudged kindAndWasted subframeHeader orderOf fixed quantization lpcBehind lpc samples subframeBehind subframe rightOf leftOf doubled leftOfMid rightOfMid pairwise joined opening widths padding footer body frame refusal accepted untouched zeroed cutShort begun finished resultOf result read
 computed s b = read s b
+
+-- and this the writer's
+unfoldable pub computedWrite : FrameSetting → List ℤ → List ℕ → Written
+unfolding computed bitsOf unary row spelt bytesOf packed fold riceBits residualBits residuals fixedResiduals plain subframeHead codedAs same uniform counting fixedOnes candidates fewestOf fewest cost chosen subframeBits sizeCode sizeBits bitsCode followers numberBytes codeBits fieldBits headerBits laneOf lanes laneWidth midOf sideOf channel stored laneBits subframesBits padded footed frameBits frameBytes writable numberLimit allowed fits allFit unwritten write
+computedWrite set xs out = write set xs out

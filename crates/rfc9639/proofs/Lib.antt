@@ -4,3 +4,4 @@ pub mod Computing
 pub mod Marked
 pub mod Published
 pub mod Ordered
+pub mod WrittenCases

@@ -9,3 +9,5 @@ pub mod Subframe
 pub mod Stereo
 pub mod Frame
 pub mod Read
+pub mod Coding
+pub mod Write
