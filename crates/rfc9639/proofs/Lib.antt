@@ -5,3 +5,4 @@ pub mod Marked
 pub mod Published
 pub mod Ordered
 pub mod WrittenCases
+pub mod Choosing
