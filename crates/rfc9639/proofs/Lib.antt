@@ -6,3 +6,5 @@ pub mod Published
 pub mod Ordered
 pub mod WrittenCases
 pub mod Choosing
+pub mod Costs
+pub mod Bound
