@@ -1,0 +1,2 @@
+-- Laws of the pen, for its functions and for their callers.
+pub mod Inking
