@@ -35,6 +35,14 @@ pen-good p e = go (ltb (p .held) 8) refl (ltb (p .bits) (2 ^ p .held)) refl e
     go true f false g e = absurd (let z : _≡_ {A = ℕ} 0 1 = cc in omega arith)
     go false f b g e = absurd (let z : _≡_ {A = ℕ} 0 1 = cc in omega arith)
 
+pub many-no-pen : (p : Pen) → 8 ≤ p .held → isPen p ≡ false
+unfolding isPen
+many-no-pen p h = rw (le-ltb _ _ h)
+
+pub high-no-pen : (p : Pen) → p .held < 8 → 2 ^ p .held ≤ p .bits → isPen p ≡ false
+unfolding isPen
+high-no-pen p f h = rw (lt-ltb _ _ f) (le-ltb _ _ h)
+
 -- ---- one bit: behind the end, in the byte begun, or its last
 
 module _ (b : ℕ) (p : Pen) (s : List ℕ) where
@@ -83,7 +91,7 @@ unfolding ink
 ink-good [] p s h g = g
 ink-good (b ∷ bs) p s h g = ink-good bs (inkBit b p s .pen) (inkBit b p s .bytes) (h .1) (bit-good b p s (h .0) g)
 
-ink-length : (bs : List ℕ) (p : Pen) (s : List ℕ) → length (ink bs p s .bytes) ≡ length s
+pub ink-length : (bs : List ℕ) (p : Pen) (s : List ℕ) → length (ink bs p s .bytes) ≡ length s
 unfolding ink
 ink-length [] p s = refl
 ink-length (b ∷ bs) p s = ink-length bs (inkBit b p s .pen) (inkBit b p s .bytes) ∙ bit-length b p s
