@@ -1,16 +1,14 @@
 -- Some bits of a word: a shift to the right, and the remainder by a power of two. From bit 64 on there are none.
 -- Assumes nothing.
-use Prim.Native.Nat.{ℕ, _*_, _%_, _^_, _≤_}
+use Prim.Native.Nat.{_%_, _^_}
 use borrow.Author.Needs.{needs}
-use native.Mathlib.Nat.{one-mul, div-eq-of-lt, lt-of-lt-of-le, zero-mod}
+use native.Mathlib.Nat.{div-eq-of-lt, lt-of-lt-of-le, zero-mod}
 use native.Mathlib.Omega.{arith}
-use mathlib.Core.Path.{_≡_, ap, sym, _∙_}
-use lib.Pow.{pow-pos, pow-mono, shl-exact}
+use mathlib.Core.Path.{ap, sym, _∙_}
+use lib.Pow.{pow-pos, pow-mono}
+use Rattle.reading.proofs.Bits.{one-shifted}
 use Rattle.output.proofs.part.Statement.{statement}
 use Rattle.output.proofs.part.Tie as tie
-
-one-shifted : (m : ℕ) → m ≤ 8 → (1 * 2 ^ m) % 2 ^ 64 ≡ 2 ^ m
-one-shifted m h = shl-exact 1 m 64 (omega arith) (omega arith) ∙ one-mul (2 ^ m)
 
 returns : tie.Need-returns
 returns c =
