@@ -1,0 +1,3 @@
+-- Laws for callers: what each lane stores, and what prediction misses.
+pub mod Storing
+pub mod Missing
