@@ -129,8 +129,8 @@ pub fn low_bits(x: i64, width: u32) -> u64
     ensures { λ r. ⌜ r ≡ lowBits width x ⌝ }
 {
     let all = all_bits(x);
-    if 64 <= width {
-        return all;
+    if width < 64 {
+        return all % (1 << width);
     }
-    all % (1 << width)
+    all
 }
