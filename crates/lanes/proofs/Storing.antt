@@ -4,8 +4,8 @@ use native.Mathlib.Nat.{zero-min, min-zero, suc-min-suc, le-of-lt, mul-le-mul}
 use native.Mathlib.Omega.{arith}
 use mathlib.Core.Path.{_≡_, refl, ap, ap₂, sym, _∙_}
 use mathlib.Core.List.{List, [], _∷_}
-use lib.IntN.{ℤ, pos, negℤ, natAbs, _+ℤ_}
-use lib.ListN.{length, getD, take, drop, length-take, length-drop}
+use lib.IntN.{ℤ, pos, natAbs, _+ℤ_}
+use lib.ListN.{length, getD, drop, length-take, length-drop}
 use lib.Seq.{getD-take, getD-drop}
 use mir.Syntax.{w32, w64}
 use mir.Val.{SFits, toZ, ofZ}
@@ -15,7 +15,7 @@ use Rattle.rfc9639.specs.declared.Lane.the-variants.{Channel, Mid, Side}
 use Rattle.rfc9639.specs.Stereo.{pairwise}
 use Rattle.rfc9639.specs.Write.{channel, stored, midOf, sideOf}
 use Rattle.rfc9639.proofs.Widths.{Fits, of-sfits, fits-add, fits-sub}
-use Rattle.number.proofs.Sizes.{abs-of-fits, abs-add, abs-neg, abs-shiftDown}
+use Rattle.number.proofs.Sizes.{abs-of-fits, abs-shiftDown}
 
 -- where channel c starts
 pub start-lt : (c n : ℕ) → c < 2 ^ 32 → n < 2 ^ 16 → c * n < 2 ^ 64
@@ -23,13 +23,13 @@ start-lt c n h k = omega (arith, mul-le-mul {n₂ = 2 ^ 32} {m₂ = 2 ^ 16} (le-
 
 -- ---- pairs
 
-length-pairwise : (f : ℤ → ℤ → ℤ) (xs ys : List ℤ) → length (pairwise f xs ys) ≡ min (length xs) (length ys)
+pub length-pairwise : (f : ℤ → ℤ → ℤ) (xs ys : List ℤ) → length (pairwise f xs ys) ≡ min (length xs) (length ys)
 unfolding pairwise
 length-pairwise f [] ys = sym (zero-min (length ys))
 length-pairwise f (x ∷ xs) [] = sym (min-zero (suc (length xs)))
 length-pairwise f (x ∷ xs) (y ∷ ys) = ap suc (length-pairwise f xs ys) ∙ sym (suc-min-suc (length xs) (length ys))
 
-pairwise-at : (f : ℤ → ℤ → ℤ) (xs ys : List ℤ) (i : ℕ) → i < length (pairwise f xs ys)
+pub pairwise-at : (f : ℤ → ℤ → ℤ) (xs ys : List ℤ) (i : ℕ) → i < length (pairwise f xs ys)
     → getD (pairwise f xs ys) i (pos 0) ≡ f (getD xs i (pos 0)) (getD ys i (pos 0))
 unfolding pairwise
 pairwise-at f [] ys i h = absurd (omega arith)
@@ -40,11 +40,11 @@ pairwise-at f (x ∷ xs) (y ∷ ys) (suc i) h = pairwise-at f xs ys i (omega ari
 -- ---- one channel
 
 module _ (n : ℕ) (xs : List ℤ) (c : ℕ) where
-  channel-long : length (channel n xs c) ≡ min n (length xs - c * n)
+  pub channel-long : length (channel n xs c) ≡ min n (length xs - c * n)
   unfolding channel
   channel-long = length-take n (drop (c * n) xs) ∙ ap (min n) (length-drop (c * n) xs)
 
-  channel-getD : (i : ℕ) → i < n → getD (channel n xs c) i (pos 0) ≡ getD xs (c * n + i) (pos 0)
+  pub channel-getD : (i : ℕ) → i < n → getD (channel n xs c) i (pos 0) ≡ getD xs (c * n + i) (pos 0)
   unfolding channel
   channel-getD i h = getD-take n (drop (c * n) xs) i (pos 0) h ∙ getD-drop (c * n) xs i (pos 0)
 

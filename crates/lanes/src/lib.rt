@@ -1,14 +1,18 @@
 // What each subframe of a frame stores (RFC 9639 section 4.2), sample by sample, out of lent samples that stand channel
 // after channel: a channel as it is, or the mid or the side of the first two. Nothing is copied: a sample is worked out
 // where it is wanted. Each function answers on every argument, by the definition's `stored`; outside of it a sample is 0.
+mod predict;
+mod sample;
+
+use predict::missed_at;
 use rfc9639::Lane;
+use sample::sample_at;
 ghost use mathlib.Core.Path.{_≡_};
-ghost use Prim.Native.Nat.{_-_, _*_, _^_, _≤_, _<_, min};
+ghost use Prim.Native.Nat.{_-_, _*_, _^_, _<_, min};
 ghost use lib.IntN.{pos, natAbs};
 ghost use lib.ListN.{length, getD};
-ghost use Rattle.rfc9639.specs.Integers.{shiftDown};
 ghost use Rattle.rfc9639.specs.Coding.{fixedResiduals};
-ghost use Rattle.rfc9639.specs.Write.{stored, midOf, sideOf};
+ghost use Rattle.rfc9639.specs.Write.{stored};
 
 fn lesser(a: usize, b: usize) -> usize
     ensures { λ r. ⌜ r ≡ min a b ⌝ }
@@ -42,37 +46,6 @@ pub fn stored_len(samples: &[i32], n: u16, lane: Lane) -> usize
     }
 }
 
-// Over two, rounded down.
-fn half(sum: i64) -> i64
-    ensures { λ r. ⌜ r ≡ shiftDown 1 sum ⌝ }
-{
-    number::shift_down(sum, 1)
-}
-
-fn mid(left: i32, right: i32) -> i64
-    ensures { λ r. ⌜ r ≡ midOf left right ⌝ }
-{
-    half(left as i64 + right as i64)
-}
-
-fn side(left: i32, right: i32) -> i64
-    ensures { λ r. ⌜ r ≡ sideOf left right ⌝ }
-{
-    left as i64 - right as i64
-}
-
-// Sample i, which is there.
-fn sample_at(samples: &[i32], n: u16, lane: Lane, i: usize) -> i64
-    requires { ⌜ i < length (stored n (now samples) lane) ⌝ }
-    ensures { λ r. ⌜ (r ≡ getD (stored n (now (samples .entry)) lane) i (pos 0)) × (natAbs r ≤ 2 ^ 32) ⌝ }
-{
-    match lane {
-        Lane::Channel(c) => number::widen(samples[c as usize * n as usize + i]),
-        Lane::Mid => mid(samples[i], samples[n as usize + i]),
-        Lane::Side => side(samples[i], samples[n as usize + i]),
-    }
-}
-
 // Sample i. Side wants a bit more than its channels have.
 pub fn stored_sample(samples: &[i32], n: u16, lane: Lane, i: usize) -> i64
     ensures { λ r. ⌜ r ≡ getD (stored n (now (samples .entry)) lane) i (pos 0) ⌝ }
@@ -81,4 +54,19 @@ pub fn stored_sample(samples: &[i32], n: u16, lane: Lane, i: usize) -> i64
         return 0;
     }
     sample_at(samples, n, lane, i)
+}
+
+// Residual j of a fixed predictor (RFC 9639 section 9.2.5), that of sample order + j. Its size is for those who sum up.
+pub fn residual(samples: &[i32], n: u16, lane: Lane, order: u32, j: usize) -> i64
+    ensures { λ r. ⌜ (r ≡ getD (fixedResiduals order (stored n (now (samples .entry)) lane)) j (pos 0)) × (natAbs r < 2 ^ 38) ⌝ }
+{
+    let len = stored_len(samples, n, lane);
+    let warm = order as usize;
+    if len <= warm {
+        return 0;
+    }
+    if len - warm <= j {
+        return 0;
+    }
+    missed_at(samples, n, lane, order, warm + j)
 }

@@ -1,8 +1,6 @@
 -- `stored_len` meets its contract, by the lane. Assumes nothing.
-use mathlib.Core.Path.{ap, sym, _∙_}
+use mathlib.Core.Path.{sym, _∙_}
 use borrow.Author.Needs.{needs}
-use lib.ListN.{length}
-use Rattle.rfc9639.specs.Write.{midOf, sideOf}
 use Rattle.lanes.proofs.Storing.{length-channel, length-both, stored-channel, stored-mid, stored-side}
 use Rattle.lanes.proofs.stored_len.Statement.{statement}
 use Rattle.lanes.proofs.stored_len.Tie as tie

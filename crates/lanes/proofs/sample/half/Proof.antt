@@ -3,8 +3,8 @@ use mathlib.Core.Path.{ap, _∙_}
 use borrow.Author.Needs.{needs}
 use mir.Facts.{toZ-ofZ}
 use Rattle.rfc9639.specs.Integers.{shiftDown}
-use Rattle.lanes.proofs.half.Statement.{statement}
-use Rattle.lanes.proofs.half.Tie as tie
+use Rattle.lanes.proofs.sample.half.Statement.{statement}
+use Rattle.lanes.proofs.sample.half.Tie as tie
 
 shift-down-requires : tie.Need-shift-down-requires
 shift-down-requires c κs = search needs

@@ -2,8 +2,8 @@
 use Rattle.rfc9639.specs.Write.{sideOf}
 use Rattle.number.proofs.Machine.{widen-fits, combined-fits, combined}
 use Rattle.lanes.proofs.Storing.{side-fits}
-use Rattle.lanes.proofs.side.Statement.{statement}
-use Rattle.lanes.proofs.side.Tie as tie
+use Rattle.lanes.proofs.sample.side.Statement.{statement}
+use Rattle.lanes.proofs.sample.side.Tie as tie
 
 cast-result : tie.Need-cast-result
 cast-result c = widen-fits (c .fits .left)

@@ -6,8 +6,8 @@ use Rattle.rfc9639.specs.Integers.{shiftDown}
 use Rattle.rfc9639.specs.Write.{midOf}
 use Rattle.number.proofs.Machine.{widen-fits, combined-fits, combined}
 use Rattle.lanes.proofs.Storing.{sumOf, sum-fits}
-use Rattle.lanes.proofs.mid.Statement.{statement}
-use Rattle.lanes.proofs.mid.Tie as tie
+use Rattle.lanes.proofs.sample.mid.Statement.{statement}
+use Rattle.lanes.proofs.sample.mid.Tie as tie
 
 cast-half : tie.Need-cast-half
 cast-half c = widen-fits (c .fits .left)

@@ -6,8 +6,8 @@ use borrow.Author.Needs.{needs}
 use lib.ListN.{length}
 use Rattle.rfc9639.specs.declared.Lane.the-variants.{Mid, Side}
 use Rattle.lanes.proofs.Storing.{stored-channel, stored-mid, stored-side, channel-inside, channel-sample, both-inside, both-sample, mid-abs, side-abs}
-use Rattle.lanes.proofs.sample_at.Statement.{statement}
-use Rattle.lanes.proofs.sample_at.Tie as tie
+use Rattle.lanes.proofs.sample.sample_at.Statement.{statement}
+use Rattle.lanes.proofs.sample.sample_at.Tie as tie
 
 -- ---- a channel
 
