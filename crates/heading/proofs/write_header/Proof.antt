@@ -26,11 +26,14 @@ write-fields-requires c κs = search needs
 room : (c : tie.After-write-fields) → length (headerBits (c .before .before .before .before .before .args .set)) ≤ 8 * length (c .before .before .before .before .before .args .out .now)
 room c = omega (arith, c .before .before .before .header-length .ensures, c .before .before .if1 .left, header-whole (c .before .before .before .before .before .args .set))
 
+within : (c : tie.After-write-fields) → c .write-fields .result .byte ≤ length (c .write-fields .last .1 .0)
+within c = pen-within _ _ (room c) (c .write-fields .ensures)
+
 slice-reshare-prefix-crc8 : tie.Need-slice-reshare-prefix-crc8
-slice-reshare-prefix-crc8 c = pen-within _ _ (room (c .before .before)) (c .before .before .write-fields .ensures)
+slice-reshare-prefix-crc8 c = omega (arith, within (c .before .before))
 
 slice-aggregate-crc8 : tie.Need-slice-aggregate-crc8
-slice-aggregate-crc8 c = sym (length-take-le _ _ (pen-within _ _ (room (c .before .before .before)) (c .before .before .before .write-fields .ensures)))
+slice-aggregate-crc8 c = sym (length-take-le _ _ (omega (arith, within (c .before .before .before))))
 
 crc8-requires : tie.Need-crc8-requires
 crc8-requires c κs = search needs
