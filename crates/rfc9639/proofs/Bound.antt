@@ -100,7 +100,7 @@ subframe-at-most : (w : ℕ) (xs : List ℤ) → length (subframeBits w xs) ≤ 
 unfolding subframeBits cost
 subframe-at-most w xs = omega (arith, chosen-at-most-verbatim xs w, cost-verbatim w xs)
 
-lane-at-most : (b n : ℕ) (xs : List ℤ) (lane : Lane) → length (laneBits b n xs lane) ≤ 8 + n * laneWidth b lane
+pub lane-at-most : (b n : ℕ) (xs : List ℤ) (lane : Lane) → length (laneBits b n xs lane) ≤ 8 + n * laneWidth b lane
 unfolding laneBits
 lane-at-most b n xs lane =
     omega (arith, subframe-at-most (laneWidth b lane) (stored n xs lane), mul-le-mul-right (laneWidth b lane) (stored-at-most n xs lane))

@@ -1,3 +1,5 @@
 -- Laws for the writer.
 pub mod Allowing
 pub mod Footed
+pub mod Planning
+pub mod Counting

@@ -1,2 +1,3 @@
 -- What the writer and its parts answer, in the words of the definition.
 pub mod Footing
+pub mod Plans

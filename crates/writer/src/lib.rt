@@ -1,4 +1,5 @@
 // The writer (document 01, "The added writer").
 mod footer;
 mod lane;
+mod plan;
 mod settings;

@@ -1,0 +1,75 @@
+-- The bits of the subframes, added up one after the other. Assumes nothing.
+use Prim.Native.Nat.{ℕ, zero, suc, _+_, _*_, _^_, _≤_, _<_}
+use native.Mathlib.Nat.{add-mul, one-mul, add-zero, mul-le-mul}
+use native.Mathlib.Numerals.{add-one}
+use native.Mathlib.Omega.{arith}
+use mathlib.Core.Path.{_≡_, refl, ap, sym, _∙_}
+use mathlib.Core.List.{List, [], _∷_, _++_, map, append-nil}
+use lib.IntN.{ℤ}
+use lib.ListN.{length, length-append}
+use Rattle.reading.specs.Spelling.{row}
+use Rattle.reading.proofs.Spelling.{row-append}
+use Rattle.rfc9639.specs.declared.ChannelAssignment.{ChannelAssignment}
+use Rattle.rfc9639.specs.declared.FrameSetting.{FrameSetting}
+use Rattle.rfc9639.specs.declared.Lane.{Lane}
+use Rattle.rfc9639.specs.declared.Lane.the-variants.{Channel, Mid, Side}
+use Rattle.rfc9639.specs.Header.{assignment, channelCount}
+use Rattle.rfc9639.specs.Coding.{counting, cost, subframeBits}
+use Rattle.rfc9639.specs.Write.{laneOf, lanes, laneWidth, laneBits, subframesBits}
+use Rattle.rfc9639.proofs.Bound.{lane-at-most}
+use Rattle.choice.specs.declared.Choice.{Choice}
+use Rattle.choice.specs.Choices.{choiceOf}
+use Rattle.writer.specs.Plans.{laneChoice}
+use Rattle.writer.proofs.Planning.{counting-last, map-append}
+
+width-at-most : (b : ℕ) (lane : Lane) → laneWidth b lane ≤ b + 1
+unfolding laneWidth
+width-at-most b (Channel c) = omega arith
+width-at-most b Mid = omega arith
+width-at-most b Side = omega arith
+
+module _ (b n : ℕ) (xs : List ℤ) (a : ChannelAssignment) where
+  -- the subframes before subframe c
+  abbrev soFar : ℕ → List ℕ
+  soFar c = row (laneBits b n xs) (map (laneOf a) (counting 0 c))
+
+  pub record Counted (bits c : ℕ) : Type 0 where
+    pub same : bits ≡ length (soFar c)
+    pub small : bits ≤ c * 2 ^ 22
+
+  pub counted-none : Counted 0 0
+  unfolding counting row
+  counted-none = record { same = refl; small = omega arith }
+
+  choice-bits : (lane : Lane) → laneChoice b n xs lane .bits ≡ length (laneBits b n xs lane)
+  unfolding laneChoice choiceOf cost laneBits subframeBits
+  choice-bits lane = refl
+
+  pub choice-small : b ≤ 24 → n ≤ 65535 → {x : Choice} → (lane : Lane) → x ≡ laneChoice b n xs lane → x .bits ≤ 2 ^ 22
+  choice-small h g {x} lane e =
+      let m : n * laneWidth b lane ≤ 65535 * 25 = mul-le-mul g (let w : laneWidth b lane ≤ 25 = omega (arith, width-at-most b lane) in w) in
+      let k : x .bits ≡ length (laneBits b n xs lane) = ap (λ (y : Choice). y .bits) e ∙ choice-bits lane in
+      omega (arith, k, lane-at-most b n xs lane)
+
+  next : (c : ℕ) → length (soFar (c + 1)) ≡ length (soFar c) + length (laneBits b n xs (laneOf a c))
+  unfolding row
+  next c =
+      let l = laneBits b n xs (laneOf a c) in
+      ap (λ (k : List ℕ). length (row (laneBits b n xs) (map (laneOf a) k)))
+      (ap (counting 0) (add-one c) ∙ counting-last 0 c ∙ ap (λ (i : ℕ). counting 0 c ++ (i ∷ [])) (let z : 0 + c ≡ c = omega arith in z))
+      ∙ ap (λ (k : List Lane). length (row (laneBits b n xs) k)) (map-append (laneOf a) (counting 0 c) (c ∷ []))
+      ∙ ap length (row-append (laneBits b n xs) (map (laneOf a) (counting 0 c)) (laneOf a c ∷ [])) ∙ length-append (soFar c) (l ++ [])
+      ∙ ap (λ (k : List ℕ). length (soFar c) + length k) (append-nil l)
+
+  module _ {bits c : ℕ} (k : Counted bits c) where
+    pub counted-more : b ≤ 24 → n ≤ 65535 → {x : Choice} → x ≡ laneChoice b n xs (laneOf a c) → Counted (bits + x .bits) (c + 1)
+    counted-more h g {x} e =
+        let m = choice-small h g (laneOf a c) e in
+        let f : x .bits ≡ length (laneBits b n xs (laneOf a c)) = ap (λ (y : Choice). y .bits) e ∙ choice-bits (laneOf a c) in
+        record { same = omega (arith, k .same, f, next c); small = omega (arith, k .small, add-mul c 1 (2 ^ 22)) }
+
+-- all subframes
+pub counted-all : (set : FrameSetting) (xs : List ℤ) {bits count c : ℕ} → Counted (set .bits) (set .size) xs (assignment (set .channels)) bits c → c ≡ count
+    → count ≡ channelCount (assignment (set .channels)) → bits ≡ length (subframesBits set xs)
+unfolding subframesBits lanes
+counted-all set xs k e f = k .same ∙ ap (λ n. length (row (laneBits (set .bits) (set .size) xs) (map (laneOf (assignment (set .channels))) (counting 0 n)))) (e ∙ f)

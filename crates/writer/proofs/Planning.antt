@@ -1,0 +1,81 @@
+-- The choices for the subframes, one after the other, and what they come to. Assumes nothing.
+use Prim.Native.Nat.{ℕ, zero, suc, _+_, _≤_, _<_}
+use native.Mathlib.Nat.{add-zero}
+use native.Mathlib.Numerals.{add-one}
+use native.Mathlib.Omega.{arith}
+use mathlib.Core.Path.{_≡_, refl, ap, ap₂, sym, _∙_}
+use mathlib.Core.List.{List, [], _∷_, _++_, map}
+use lib.IntN.{ℤ}
+use lib.ListN.{length, take, set, length-set}
+use lib.Seq.{take-suc-set}
+use Rattle.rfc9639.specs.declared.ChannelAssignment.{ChannelAssignment}
+use Rattle.rfc9639.specs.declared.Lane.{Lane}
+use Rattle.rfc9639.specs.Header.{channelCount}
+use Rattle.rfc9639.specs.Coding.{counting}
+use Rattle.rfc9639.specs.Write.{laneOf, lanes, laneWidth, stored}
+use Rattle.choice.specs.declared.Choice.{Choice}
+use Rattle.choice.specs.Choices.{choiceOf}
+use Rattle.writer.specs.Plans.{laneChoice}
+
+-- ---- lists
+
+pub counting-last : (a n : ℕ) → counting a (suc n) ≡ counting a n ++ ((a + n) ∷ [])
+unfolding counting
+counting-last a zero = ap (λ k. k ∷ []) (sym (add-zero a))
+counting-last a (suc n) = ap (λ l. a ∷ l) (counting-last (suc a) n ∙ ap (λ k. counting (suc a) n ++ (k ∷ [])) (let e : suc a + n ≡ a + suc n = omega arith in e))
+
+pub map-append : {A B : Type 0} (f : A → B) (xs ys : List A) → map f (xs ++ ys) ≡ map f xs ++ map f ys
+map-append f [] ys = refl
+map-append f (x ∷ xs) ys = ap (λ l. f x ∷ l) (map-append f xs ys)
+
+pub map-map : {A B C : Type 0} (f : A → B) (g : B → C) (xs : List A) → map g (map f xs) ≡ map (λ x. g (f x)) xs
+map-map f g [] = refl
+map-map f g (x ∷ xs) = ap (λ l. g (f x) ∷ l) (map-map f g xs)
+
+-- ---- the first c of `count` places hold what f gives for them
+
+pub record Planned {A : Type 0} (f : ℕ → A) (count : ℕ) (places : List A) (c : ℕ) : Type 0 where
+  pub long : length places ≡ 8
+  pub few : count ≤ 8
+  pub within : c ≤ count
+  pub done : take c places ≡ map f (counting 0 c)
+
+module _ {A : Type 0} (f : ℕ → A) (count : ℕ) where
+  pub begin : count ≤ 8 → (places : List A) → length places ≡ 8 → Planned f count places 0
+  unfolding counting
+  begin h places e = record { long = e; few = h; within = omega arith; done = refl }
+
+  module _ {places : List A} {c : ℕ} (p : Planned f count places c) where
+    pub step : c < count → (x : A) → x ≡ f c → Planned f count (set places c x) (c + 1)
+    step h x e = record {
+      long = length-set places c x ∙ p .long;
+      few = p .few;
+      within = omega arith;
+      done =
+          ap (λ n. take n (set places c x)) (add-one c) ∙ take-suc-set places c x (omega (arith, p .long, p .few)) ∙ ap₂ (λ l y. l ++ (y ∷ [])) (p .done) e
+          ∙ sym (map-append f (counting 0 c) (c ∷ [])) ∙ ap (map f) (sym last) ∙ ap (λ n. map f (counting 0 n)) (sym (add-one c));
+    }
+      where
+        last : counting 0 (suc c) ≡ counting 0 c ++ (c ∷ [])
+        last = counting-last 0 c ∙ ap (λ k. counting 0 c ++ (k ∷ [])) (let g : 0 + c ≡ c = omega arith in g)
+
+    pub at-end : count ≤ c → c ≡ count
+    at-end h = omega (arith, p .within)
+
+    pub end : count ≤ c → take count places ≡ map f (counting 0 count)
+    end h = let e : count ≡ c = omega (arith, p .within) in ap (λ n. take n places) e ∙ p .done ∙ ap (λ n. map f (counting 0 n)) (sym e)
+
+-- ---- the lanes
+
+-- the choice that was made for a lane and its width
+pub chosen-lane : (b n : ℕ) (xs : List ℤ) {r : Choice} {w : ℕ} {lane lane′ : Lane} → r ≡ choiceOf w (stored n xs lane) → w ≡ laneWidth b lane → lane ≡ lane′ → r ≡ laneChoice b n xs lane′
+unfolding laneChoice
+chosen-lane b n xs {r} {w} {lane} {lane′} e f g = e ∙ ap (λ v. choiceOf v (stored n xs lane)) f ∙ ap (laneChoice b n xs) g
+
+-- all of them
+pub planned-all : (a : ChannelAssignment) (b n : ℕ) (xs : List ℤ) {count c : ℕ} {places : List Choice} → Planned (λ i. laneChoice b n xs (laneOf a i)) count places c
+    → count ≤ c → count ≡ channelCount a → take (channelCount a) places ≡ map (laneChoice b n xs) (lanes a)
+unfolding lanes
+planned-all a b n xs {count} {c} {places} p h e =
+    ap (λ k. take k places) (sym e) ∙ end (λ i. laneChoice b n xs (laneOf a i)) count p h ∙ ap (λ k. map (λ i. laneChoice b n xs (laneOf a i)) (counting 0 k)) e
+    ∙ sym (map-map (laneOf a) (laneChoice b n xs) (counting 0 (channelCount a)))
