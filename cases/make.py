@@ -1,13 +1,15 @@
-"""Writes the stored cases: runner.txt and read_probe.txt, a line each of name, input and output in hex, and card.bin.
+"""Writes the stored cases: runner.txt, read_probe.txt and write_probe.txt, a line each of name, input and output in hex,
+and card.bin.
 
     python3 make.py
 
-The outputs are model.py's, which was held against claxon 0.4.3 on random frames and damaged copies of them.
+The outputs are model.py's, which was held against claxon 0.4.3 on random frames and damaged copies of them, and writer.py's.
 """
 import random
 
 import build
 import model
+import writer
 from build import Bits, constant, fixed, frame, header, lpc, start, verbatim
 
 WHOLE = bytes.fromhex("fff869180000bf0358fd03128baa9a")
@@ -135,6 +137,7 @@ def runner_cases():
     yield from differences()
     yield from cuts("whole", WHOLE)
     yield from cuts("flac", FLAC)
+    yield from written()
 
 
 def probe_cases():
@@ -152,6 +155,71 @@ def probe_cases():
     yield "no-input", b""
     yield "room-alone", at(2, 0)[:4]
     yield from ((f"cut-{n}", at(3, 9) + WHOLE[:n]) for n in range(len(WHOLE)))
+
+
+def settings(code, bits, size, blocking=0, number=0):
+    return dict(code=code, bits=bits, blocking=blocking, number=number, size=size)
+
+
+def blocks():
+    """Samples and settings that the writer takes: every channel code, every width, block sizes about the codes' limits,
+    number forms, and samples that make each way of storing the shortest."""
+    rng = random.Random(11)
+    shapes = [lambda n, top: [0] * n, lambda n, top: [top - 1] * n, lambda n, top: [rng.randint(-top, top - 1) for _ in range(n)], lambda n, top: [max(-top, min(top - 1, x)) for x in tone(n, top * 0.7, 0.21, rng)], lambda n, top: [max(-top, min(top - 1, 3 * i * i - 7 * i)) for i in range(n)], lambda n, top: [-top if i % 2 else top - 1 for i in range(n)]]
+    for code in range(11):
+        for bits in (8, 12, 16, 20, 24):
+            size, parts = rng.choice([1, 2, 5, 16, 31]), []
+            for _ in range(code + 1 if code < 8 else 2):
+                parts += rng.choice(shapes)(size, 1 << bits - 1)
+            yield f"code-{code}-bits-{bits}", parts, settings(code, bits, size, rng.randint(0, 1), rng.randint(0, 2**31 - 1))
+    for k, shape in enumerate(shapes):
+        for size in (1, 2, 3, 4, 5, 6, 64):
+            yield f"shape-{k}-size-{size}", shape(size, 128), settings(0, 8, size)
+    for size in (191, 192, 193, 255, 256, 257, 512, 576, 1024, 1152, 2048, 2304, 4096, 4097):
+        yield f"size-{size}", [(i * 37) % 5 - 2 for i in range(size)], settings(0, 8, size)
+    for bits in (7, 11, 16, 21, 26, 31, 36):
+        for number in (2**bits - 1, 2**bits % 2**36):
+            yield f"number-{number}", [1, -1, 0], settings(0, 12, 3, 1, number)
+    yield "largest-frame-number", [9], settings(0, 24, 1, 0, 2**31 - 1)
+    for k in range(15):
+        yield f"parameter-{k}", [(-1) ** i * rng.randint(0, 3 << k) // 2 for i in range(24)], settings(0, 24, 24)
+    yield "first-wins-a-tie", [1, 1, 2, 2, 3, 3, 4, 4], settings(0, 8, 8)
+
+
+def packed(samples, code, bits, blocking, number, size, room, fill=0xA5):
+    head = bytes([code, bits, blocking]) + number.to_bytes(8, "little") + size.to_bytes(4, "little") + room.to_bytes(4, "little")
+    return head + bytes([fill]) + b"".join(x.to_bytes(4, "little", signed=True) for x in samples)
+
+
+def written():
+    """The frames of the blocks, for `runner`."""
+    for name, samples, s in blocks():
+        yield "written-" + name, writer.frame(samples, **s)
+
+
+def write_probe_cases():
+    for name, samples, s in blocks():
+        yield name, packed(samples, room=len(writer.frame(samples, **s)) + 3, **s)
+    ok = dict(code=1, bits=16, blocking=0, number=7, size=2)
+    four = [3, -4, 500, -32768]
+    exact = len(writer.frame(four, **ok))
+    for room in (0, 1, exact - 1, exact, exact + 1, 32768):
+        yield f"room-{room}", packed(four, room=room, **ok)
+    yield "room-32769", packed(four, room=32769, **ok)
+    wrong = [("code", 11), ("code", 255), ("bits", 0), ("bits", 15), ("bits", 32), ("bits", 255), ("blocking", 2), ("blocking", 255), ("number", 2**31), ("number", 2**64 - 1), ("size", 0), ("size", 1), ("size", 3), ("size", 65536), ("size", 2**32 - 1)]
+    for field, value in wrong:
+        yield f"wrong-{field}-{value}", packed(four, room=exact, **{**ok, field: value})
+    yield "wrong-number-variable", packed(four, room=exact, **{**ok, "blocking": 1, "number": 2**36})
+    for extra in ([], four[:3], four + [0]):
+        yield f"count-{len(extra)}", packed(extra, room=exact, **ok)
+    for bits in (8, 12, 16, 20, 24):
+        for x in (-(1 << bits - 1), (1 << bits - 1) - 1, -(1 << bits - 1) - 1, 1 << bits - 1, -(1 << 31), (1 << 31) - 1):
+            yield f"range-{bits}-{x}", packed([0, x], code=0, bits=bits, blocking=0, number=0, size=2, room=32)
+    yield "setting-before-sample", packed([1 << 20] * 4, room=exact, **{**ok, "bits": 9})
+    yield "sample-before-room", packed([1 << 20] * 4, room=0, **ok)
+    yield "no-input", b""
+    yield "head-alone", packed([], room=4, **ok)
+    yield "three-bytes-over", packed(four, room=exact, **ok) + b"abc"
 
 
 def write(name, cases, program):
@@ -181,5 +249,6 @@ def card():
 if __name__ == "__main__":
     write("runner.txt", runner_cases(), model.runner)
     write("read_probe.txt", probe_cases(), model.read_probe)
+    write("write_probe.txt", write_probe_cases(), writer.write_probe)
     with open("card.bin", "wb") as out:
         out.write(card())

@@ -70,3 +70,15 @@ def write(samples, code, bits, blocking, number, size, output):
     if len(data) > len(output):
         return 13, 0, output
     return 0, len(data), data + output[len(data) :]
+
+
+def write_probe(data):
+    """What the program `write_probe` writes."""
+    head = data[:20] + bytes(20 - len(data[:20]))
+    number, size, room = (int.from_bytes(head[a:b], "little") for a, b in [(3, 11), (11, 15), (15, 19)])
+    if room > 32768:
+        return bytes([11, 0, 0, 0, 0])
+    body = data[20 : 20 + 65536]
+    samples = [int.from_bytes(body[i : i + 4], "little", signed=True) for i in range(0, len(body) // 4 * 4, 4)]
+    r = write(samples, head[0], head[1], head[2], number, size, bytes([head[19]]) * room)
+    return bytes([r[0]]) + r[1].to_bytes(4, "little") + r[2]
