@@ -1,4 +1,4 @@
--- The pieces of a subframe: each is bits, and how the code counts and cuts them. Assumes nothing.
+-- The pieces of a subframe: that each is bits, and each as the code has it. Assumes nothing.
 use Prim.Native.Nat.{ℕ, _/_, _^_, _≤_, _<_}
 use native.Mathlib.Omega.{arith}
 use mathlib.Core.Path.{_≡_, refl, ap, sym, _∙_}
@@ -19,6 +19,9 @@ use Rattle.rfc9639.specs.declared.Candidate.the-variants.{Constant, Verbatim, F
 use Rattle.rfc9639.specs.Integers.{low}
 use Rattle.rfc9639.specs.Coding.{fold, riceBits, plain, subframeHead, codedAs}
 use Rattle.number.specs.Extend.{lowBits}
+use Rattle.output.specs.declared.Pen.{Pen}
+use Rattle.output.specs.Ink.{State, inked}
+use Rattle.output.proofs.Inking.{inked-then}
 use Rattle.coding.specs.Ways.{writtenAs}
 
 -- ---- bits
@@ -34,18 +37,30 @@ pub bits-rice : (k : ℕ) (r : ℤ) → Bits (riceBits k r)
 unfolding riceBits
 bits-rice k r = bits-append (unary (fold r / 2 ^ k)) (bitsOf k (fold r)) (bits-unary (fold r / 2 ^ k)) (bits-bitsOf k (fold r))
 
+module _ (l a m b n c : ℕ) where
+  bits-two : Bits (bitsOf l a ++ bitsOf m b)
+  bits-two = bits-append (bitsOf l a) (bitsOf m b) (bits-bitsOf l a) (bits-bitsOf m b)
+
+  pub bits-three : Bits (bitsOf l a ++ bitsOf m b ++ bitsOf n c)
+  bits-three = bits-append (bitsOf l a ++ bitsOf m b) (bitsOf n c) bits-two (bits-bitsOf n c)
+
+  -- three calls behind each other
+  pub inked-three : (p : Pen) (s : List ℕ) {q r u : Pen} {t v x : List ℕ} → _≡_ {A = State} (record { pen = q; bytes = t }) (inked (bitsOf l a) p s)
+      → _≡_ {A = State} (record { pen = r; bytes = v }) (inked (bitsOf m b) q t) → _≡_ {A = State} (record { pen = u; bytes = x }) (inked (bitsOf n c) r v)
+      → _≡_ {A = State} (record { pen = u; bytes = x }) (inked (bitsOf l a ++ bitsOf m b ++ bitsOf n c) p s)
+  inked-three p s d e f =
+      inked-then (bitsOf l a ++ bitsOf m b) (bitsOf n c) p s bits-two (inked-then (bitsOf l a) (bitsOf m b) p s (bits-bitsOf l a) d e) f
+
 pub bits-head : (code : ℕ) → Bits (subframeHead code)
 unfolding subframeHead
-bits-head code =
-    bits-append (bitsOf 1 0 ++ bitsOf 6 code) (bitsOf 1 0) (bits-append (bitsOf 1 0) (bitsOf 6 code) (bits-bitsOf 1 0) (bits-bitsOf 6 code)) (bits-bitsOf 1 0)
+bits-head code = bits-three 1 0 6 code 1 0
 
 -- the header, and samples behind it
 pub bits-start : (code w : ℕ) (xs : List ℤ) → Bits (subframeHead code ++ plain w xs)
 bits-start code w xs = bits-append (subframeHead code) (plain w xs) (bits-head code) (bits-plain w xs)
 
--- ---- a sample
+-- ---- a sample: of a width up to 64 the low bits are the width's
 
--- of a width up to 64 the low bits are the width's
 pub lowBits-is : (w : ℕ) (z : ℤ) → w ≤ 64 → lowBits w z ≡ low w z
 unfolding lowBits
 lowBits-is w z h = go (leb w 63) refl

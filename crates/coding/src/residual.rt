@@ -2,10 +2,8 @@
 use output::Pen;
 use rfc9639::Lane;
 ghost use mathlib.Core.Path.{_≡_};
-ghost use mathlib.Core.List.{_++_};
 ghost use Prim.Native.Nat.{_/_, _-_, _^_};
-ghost use lib.ListN.{length};
-ghost use Rattle.reading.specs.Spelling.{bitsOf, row};
+ghost use Rattle.reading.specs.Spelling.{row};
 ghost use Rattle.rfc9639.specs.Coding.{riceBits, residualBits, fixedResiduals};
 ghost use Rattle.rfc9639.specs.Write.{stored};
 ghost use Rattle.output.specs.Ink.{inked, State};
@@ -20,6 +18,7 @@ fn quotient(v: u64, k: u32) -> u64
     v >> k
 }
 
+// What is left of a without b.
 fn rest(a: usize, b: usize) -> usize
     ensures { λ r. ⌜ r ≡ a - b ⌝ }
 {
@@ -38,6 +37,7 @@ fn write_rice(out: &mut [u8], pen: Pen, k: u32, r: i64) -> Pen
     output::write_bits(out, p, k, folded)
 }
 
+// The residuals in a row.
 fn write_rices(
     samples: &[i32],
     n: u16,
@@ -59,7 +59,7 @@ fn write_rices(
     p
 }
 
-// The method, the order of the partitions, the parameter, and the residuals.
+// The method, the order of the partitions, the parameter of the one there is, and the residuals.
 pub fn write_residual(
     samples: &[i32],
     n: u16,

@@ -1,19 +1,19 @@
-use borrow.Author.Needs.{needs}
 -- `write_plain` meets its contract: a turn for each sample (Rows). Assumes nothing.
 use Prim.Native.Nat.{_-_}
-use lib.ListN.{take, length-take}
-use Rattle.rfc9639.specs.Coding.{plain}
-use Rattle.rfc9639.specs.Write.{stored}
-use Rattle.coding.proofs.Rows.{Unwritten, begin, step, end}
-use Rattle.coding.proofs.Pieces.{sampleBits, lowBits-is}
 use native.Mathlib.Omega.{arith}
 use mathlib.Core.Path.{ap, sym, _∙_}
+use borrow.Author.Needs.{needs}
 use lib.IntN.{pos}
+use lib.ListN.{take, length-take}
 use lib.Seq.{getD-take}
 use mir.Facts.{toZ-ofZ}
 use Rattle.reading.specs.Spelling.{bitsOf}
 use Rattle.reading.proofs.Spelling.{bits-bitsOf}
+use Rattle.rfc9639.specs.Coding.{plain}
+use Rattle.rfc9639.specs.Write.{stored}
 use Rattle.output.specs.Ink.{inked}
+use Rattle.coding.proofs.Rows.{Unwritten, begin, step, end}
+use Rattle.coding.proofs.Pieces.{sampleBits, lowBits-is}
 use Rattle.coding.proofs.write_plain.Statement.{statement}
 use Rattle.coding.proofs.write_plain.Tie as tie
 

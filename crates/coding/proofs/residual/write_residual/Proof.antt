@@ -1,10 +1,8 @@
 -- `write_residual` meets its contract, field by field. Assumes nothing.
 use borrow.Author.Needs.{needs}
-use mathlib.Core.List.{_++_}
-use Rattle.reading.specs.Spelling.{bitsOf}
-use Rattle.reading.proofs.Spelling.{bits-append, bits-bitsOf}
 use Rattle.rfc9639.specs.Coding.{residualBits}
 use Rattle.output.proofs.Inking.{inked-then}
+use Rattle.coding.proofs.Pieces.{bits-three, inked-three}
 use Rattle.coding.proofs.residual.write_residual.Statement.{statement}
 use Rattle.coding.proofs.residual.write_residual.Tie as tie
 
@@ -28,10 +26,8 @@ unfolding residualBits
 returns c =
     let fourth = c .before .before in let third = fourth .before .before .before .before in let second = third .before .before .before .before in
     let first = second .before .before .before .before in
-    inked-then _ _ _ _ (bits-append (bitsOf 2 0 ++ bitsOf 4 0) (bitsOf 4 _) (bits-append (bitsOf 2 0) (bitsOf 4 0) (bits-bitsOf 2 0) (bits-bitsOf 4 0)) (bits-bitsOf 4 _))
-    (inked-then _ _ _ _ (bits-append (bitsOf 2 0) (bitsOf 4 0) (bits-bitsOf 2 0) (bits-bitsOf 4 0))
-    (inked-then _ _ _ _ (bits-bitsOf 2 0) (first .write-bits .ensures) (second .write-bits2 .ensures))
-    (third .write-bits3 .ensures))
+    inked-then _ _ _ _ (bits-three 2 0 4 0 4 _)
+    (inked-three 2 0 4 0 4 _ _ _ (first .write-bits .ensures) (second .write-bits2 .ensures) (third .write-bits3 .ensures))
     (fourth .write-rices .ensures)
 
 pub write-residual-spec : {M : Type 1} → statement M

@@ -1,14 +1,14 @@
-use borrow.Author.Needs.{needs}
 -- `write_rices` meets its contract: a turn for each residual (Rows). Assumes nothing.
 use Prim.Native.Nat.{_-_}
+use native.Mathlib.Omega.{arith}
+use mathlib.Core.Path.{_∙_}
+use borrow.Author.Needs.{needs}
+use lib.IntN.{pos}
+use mir.Facts.{toZ-ofZ}
 use Rattle.rfc9639.specs.Coding.{riceBits, fixedResiduals}
 use Rattle.rfc9639.specs.Write.{stored}
 use Rattle.lanes.proofs.Missing.{length-fixedResiduals}
 use Rattle.coding.proofs.Rows.{Unwritten, begin, step, end}
-use native.Mathlib.Omega.{arith}
-use mathlib.Core.Path.{_∙_}
-use lib.IntN.{pos}
-use mir.Facts.{toZ-ofZ}
 use Rattle.coding.proofs.Pieces.{bits-rice}
 use Rattle.coding.proofs.residual.write_rices.Statement.{statement}
 use Rattle.coding.proofs.residual.write_rices.Tie as tie
