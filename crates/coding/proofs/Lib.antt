@@ -1,0 +1,4 @@
+-- Laws of what is written, for the functions that write it.
+pub mod Rows
+pub mod Pieces
+pub mod Outcome

@@ -1,0 +1,40 @@
+-- `write_rice` meets its contract: the quotient, and the remainder behind it. Assumes nothing.
+use borrow.Author.Needs.{needs}
+use Rattle.reading.proofs.Spelling.{bits-unary}
+use Rattle.output.proofs.Inking.{inked-then}
+use Rattle.coding.proofs.Pieces.{rice-is}
+use Rattle.coding.proofs.Rows.{inked-as}
+use Rattle.coding.proofs.residual.write_rice.Statement.{statement}
+use Rattle.coding.proofs.residual.write_rice.Tie as tie
+
+fold-requires : tie.Need-fold-requires
+fold-requires c κs = search needs
+
+quotient-requires : tie.Need-quotient-requires
+quotient-requires c κs = search needs
+
+write-unary-requires : tie.Need-write-unary-requires
+write-unary-requires c κs = search needs
+
+write-bits-requires : tie.Need-write-bits-requires
+write-bits-requires c κs = search needs
+
+same-length : tie.Need-same-length
+same-length c = search needs
+
+returns : tie.Need-returns
+returns c =
+    let b = c .before .before in let u = b .before .before .before .before in let q = u .before in let f = q .before .before in let s = f .before .before in
+    inked-as _ _ (rice-is (s .args .k) (s .fits .r) (f .fold .ensures) (q .quotient .ensures))
+    (inked-then _ _ _ _ (bits-unary _) (u .write-unary .ensures) (b .write-bits .ensures))
+
+pub write-rice-spec : {M : Type 1} → statement M
+write-rice-spec =
+    tie.close
+    (tie.spec
+    fold-requires
+    quotient-requires
+    write-unary-requires
+    write-bits-requires
+    same-length
+    returns)

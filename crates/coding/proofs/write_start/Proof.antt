@@ -1,0 +1,24 @@
+-- `write_start` meets its contract: the header, and samples behind it. Assumes nothing.
+use borrow.Author.Needs.{needs}
+use Rattle.output.proofs.Inking.{inked-then}
+use Rattle.coding.proofs.Pieces.{bits-head}
+use Rattle.coding.proofs.write_start.Statement.{statement}
+use Rattle.coding.proofs.write_start.Tie as tie
+
+write-head-requires : tie.Need-write-head-requires
+write-head-requires c κs = search needs
+
+write-plain-requires : tie.Need-write-plain-requires
+write-plain-requires c κs = search needs
+
+same-length : tie.Need-same-length
+same-length c = search needs
+
+returns : tie.Need-returns
+returns c =
+    let w = c .before .before in
+    inked-then _ _ _ _ (bits-head _) (w .before .before .before .before .write-head .ensures) (w .write-plain .ensures)
+
+pub write-start-spec : {M : Type 1} → statement M
+write-start-spec =
+    tie.close (tie.spec write-head-requires write-plain-requires same-length returns)

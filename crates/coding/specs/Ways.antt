@@ -1,0 +1,12 @@
+-- What is written of a channel.
+use Prim.Native.Nat.{ℕ}
+use mathlib.Core.List.{List, []}
+use lib.Dec.{leb}
+use lib.IntN.{ℤ}
+use Rattle.reading.specs.Reading.{if_then_else_}
+use Rattle.rfc9639.specs.declared.Candidate.{Candidate}
+use Rattle.rfc9639.specs.Coding.{codedAs}
+
+-- A sample has at most 64 bits: of a wider one nothing is written.
+unfoldable pub writtenAs : Candidate → ℕ → List ℤ → List ℕ
+writtenAs c w xs = if leb w 64 then codedAs c w xs else []
