@@ -1,0 +1,121 @@
+-- Bits that spell a value: what a reader gets of them, whatever follows, and that it passes them all. One law for each way
+-- in which a reader is made. Assumes nothing.
+use Prim.Native.Nat.{ℕ, zero, suc, _+_, _*_, _/_, _%_, _^_, _<_}
+use native.Mathlib.Nat.{add-zero, mod-eq-of-lt, zero-mul, zero-add, pow-suc, mul-assoc, mul-comm, add-mul, add-assoc, mod-one, mul-one, pow-zero}
+use native.Mathlib.Omega.{arith}
+use mathlib.Core.Path.{_≡_, refl, ap, ap₂, sym, _∙_, subst}
+use mathlib.Core.Bool.{Bool, true, false, cond}
+use mathlib.Core.List.{List, [], _∷_, _++_, map, append-assoc, append-nil}
+use lib.ListN.{length, take, drop, replicate, length-append}
+use lib.Pow.{mod-pow-add}
+use lib.Seq.{drop-append-seam, take-append-seam}
+use Rattle.reading.specs.Reading.{Ask, done, _>>=_, bits, zeros, passed, require, many, each, found, bitsFrom, zerosFrom, answer, follow, Got, got, run}
+use Rattle.reading.specs.Spelling.{bitsOf, unary, row}
+use Rattle.reading.proofs.Running.{run-bind-got}
+use Rattle.reading.proofs.Holding.{Every}
+
+-- behind the bits `before`, the bits `bs` are what p reads as a
+pub record Spells {A : Type 0} (before : List ℕ) (p : Ask A) (bs : List ℕ) (a : A) : Type 0 where
+  pub reads : (rest : List ℕ) → run p (before ++ (bs ++ rest)) (length before) ≡ got a (length before + length bs)
+
+-- what each of some things gives, one behind the other
+unfoldable pub flat : {A B : Type 0} → (A → List B) → List A → List B
+flat f [] = []
+flat f (x ∷ xs) = f x ++ flat f xs
+
+-- ---- the same bits in another grouping
+
+pub spells-as : {A : Type 0} {before : List ℕ} {p : Ask A} {bs cs : List ℕ} {a : A} → bs ≡ cs → Spells before p bs a → Spells before p cs a
+spells-as {before} {p} {a} e h = subst (λ ds. Spells before p ds a) e h
+
+-- ---- the questions
+
+join : (n acc v : ℕ) → (acc * 2 + v / 2 ^ n % 2) * 2 ^ n + v % 2 ^ n ≡ acc * 2 ^ suc n + v % 2 ^ suc n
+join n acc v =
+    let two : v % 2 ^ suc n ≡ v / 2 ^ n % 2 * 2 ^ n + v % 2 ^ n = ap (λ m. v % 2 ^ m) (let e : suc n ≡ 1 + n = omega arith in e) ∙ mod-pow-add v 1 n in
+    rw (two, pow-suc 2 n) (omega arith)
+
+bits-found : (n acc i v : ℕ) (rest : List ℕ) → bitsFrom n acc i (bitsOf n v ++ rest) ≡ found (acc * 2 ^ n + v % 2 ^ n) (i + length (bitsOf n v))
+unfolding bitsFrom bitsOf
+bits-found zero acc i v rest = ap₂ found (rw (pow-zero 2, mul-one acc, mod-one v) (sym (add-zero acc))) (sym (add-zero i))
+bits-found (suc n) acc i v rest = bits-found n (acc * 2 + v / 2 ^ n % 2) (suc i) v rest ∙ ap₂ found (join n acc v) (omega arith)
+
+zeros-found : (q z i : ℕ) (rest : List ℕ) → zerosFrom z i (unary q ++ rest) ≡ found (z + q) (i + length (unary q))
+unfolding zerosFrom unary
+zeros-found zero z i rest = ap₂ found (sym (add-zero z)) (omega arith)
+zeros-found (suc q) z i rest = zeros-found q (suc z) (suc i) rest ∙ ap₂ found (omega arith) (omega arith)
+
+module _ {before : List ℕ} where
+  pub spells-bits : (n : ℕ) {v : ℕ} → v < 2 ^ n → Spells before (bits n) (bitsOf n v) v
+  unfolding bits run answer follow
+  spells-bits n {v} h = record {
+    reads =
+        λ rest.
+            ap (λ x. follow x got)
+            (ap (bitsFrom n 0 (length before)) (drop-append-seam before (bitsOf n v ++ rest)) ∙ bits-found n 0 (length before) v rest
+            ∙ ap (λ x. found x (length before + length (bitsOf n v))) (let e : v % 2 ^ n ≡ v = mod-eq-of-lt h in omega (arith, zero-mul (2 ^ n))));
+  }
+
+  pub spells-zeros : (q : ℕ) → Spells before zeros (unary q) q
+  unfolding zeros run answer follow
+  spells-zeros q = record {
+    reads =
+        λ rest.
+            ap (λ x. follow x got)
+            (ap (zerosFrom 0 (length before)) (drop-append-seam before (unary q ++ rest)) ∙ zeros-found q 0 (length before) rest
+            ∙ ap (λ x. found x (length before + length (unary q))) (zero-add q));
+  }
+
+  pub spells-passed : Spells before passed [] before
+  unfolding passed run
+  spells-passed = record { reads = λ rest. ap₂ got (take-append-seam before rest) (sym (add-zero (length before))) }
+
+  -- ---- one reader behind another
+
+  pub spells-done : {A : Type 0} {a : A} → Spells before (done a) [] a
+  unfolding run
+  spells-done {a} = record { reads = λ rest. ap (got a) (sym (add-zero (length before))) }
+
+  pub spells-bind : {A B : Type 0} {p : Ask A} (k : A → Ask B) {bs cs : List ℕ} {a : A} {b : B} → Spells before p bs a → Spells (before ++ bs) (k a) cs b
+      → Spells before (p >>= k) (bs ++ cs) b
+  spells-bind {p} k {bs} {cs} {a} {b} h g = record {
+    reads =
+        λ rest.
+            ap (λ s. run (p >>= k) (before ++ s) (length before)) (append-assoc bs cs rest)
+            ∙ run-bind-got p k (before ++ (bs ++ (cs ++ rest))) (length before) (h .reads (cs ++ rest))
+            ∙ ap₂ (run (k a)) (sym (append-assoc before bs (cs ++ rest))) (sym (length-append before bs)) ∙ g .reads rest
+            ∙ ap (got b) (simp length-append (omega arith));
+  }
+
+  -- what reads nothing
+  pub spells-then : {A B : Type 0} {p : Ask A} (k : A → Ask B) {cs : List ℕ} {a : A} {b : B} → Spells before p [] a → Spells before (k a) cs b
+      → Spells before (p >>= k) cs b
+  spells-then {p} k {cs} {a} {b} h g = spells-bind k h (subst (λ s. Spells s (k a) cs b) (sym (append-nil before)) g)
+
+  -- a last step that reads nothing
+  pub spells-last : {A B : Type 0} {p : Ask A} (k : A → Ask B) {bs : List ℕ} {a : A} {b : B} → Spells before p bs a → Spells (before ++ bs) (k a) [] b
+      → Spells before (p >>= k) bs b
+  spells-last k {bs} h g = spells-as (append-nil bs) (spells-bind k h g)
+
+  pub spells-require : {b : Bool} (n : ℕ) → b ≡ true → Spells before (require b n) [] tt
+  unfolding require
+  spells-require n e = rw e spells-done
+
+  -- a check that holds
+  pub spells-checked : {A : Type 0} {b : Bool} (n : ℕ) (k : Unit {0} → Ask A) {cs : List ℕ} {a : A} → b ≡ true → Spells before (k tt) cs a
+      → Spells before (require b n >>= k) cs a
+  spells-checked n k e g = spells-then k (spells-require n e) g
+
+-- ---- lists
+
+pub spells-many : {A : Type 0} (p : Ask A) (f : A → List ℕ) (xs : List A) → Every (λ x. (before : List ℕ) → Spells before p (f x) x) xs
+    → {before : List ℕ} → Spells before (many (length xs) p) (row f xs) xs
+unfolding many row
+spells-many p f [] h = spells-done
+spells-many p f (x ∷ xs) h {before} = spells-bind _ (h .0 before) (spells-last _ (spells-many p f xs (h .1)) spells-done)
+
+pub spells-each : {A B C : Type 0} (p : A → Ask (List B)) (f : C → List ℕ) (g : C → List B) (w : C → A) (cs : List C) → Every (λ c. (before : List ℕ) → Spells before (p (w c)) (f c) (g c)) cs
+    → {before : List ℕ} → Spells before (each p (map w cs)) (row f cs) (flat g cs)
+unfolding each row flat
+spells-each p f g w [] h = spells-done
+spells-each p f g w (c ∷ cs) h {before} = spells-bind _ (h .0 before) (spells-last _ (spells-each p f g w cs (h .1)) spells-done)
