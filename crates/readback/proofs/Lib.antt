@@ -1,2 +1,4 @@
 -- What is written is read back.
 pub mod Spells
+pub mod Tests
+pub mod Number

@@ -1,13 +1,13 @@
 -- Bits that spell a value: what a reader gets of them, whatever follows, and that it passes them all. One law for each way
 -- in which a reader is made. Assumes nothing.
 use Prim.Native.Nat.{ℕ, zero, suc, _+_, _*_, _/_, _%_, _^_, _<_}
-use native.Mathlib.Nat.{add-zero, mod-eq-of-lt, zero-mul, zero-add, pow-suc, mul-assoc, mul-comm, add-mul, add-assoc, mod-one, mul-one, pow-zero}
+use native.Mathlib.Nat.{add-zero, zero-add, zero-mul, mul-one, pow-zero, pow-suc, mod-one, mod-lt, mod-eq-of-lt, div-add-mod', mul-add-mod-self-right, mul-le-mul-right}
 use native.Mathlib.Omega.{arith}
 use mathlib.Core.Path.{_≡_, refl, ap, ap₂, sym, _∙_, subst}
 use mathlib.Core.Bool.{Bool, true, false, cond}
 use mathlib.Core.List.{List, [], _∷_, _++_, map, append-assoc, append-nil}
 use lib.ListN.{length, take, drop, replicate, length-append}
-use lib.Pow.{mod-pow-add}
+use lib.Pow.{pow-pos}
 use lib.Seq.{drop-append-seam, take-append-seam}
 use Rattle.reading.specs.Reading.{Ask, done, _>>=_, bits, zeros, passed, require, many, each, found, bitsFrom, zerosFrom, answer, follow, Got, got, run}
 use Rattle.reading.specs.Spelling.{bitsOf, unary, row}
@@ -23,22 +23,39 @@ unfoldable pub flat : {A B : Type 0} → (A → List B) → List A → List B
 flat f [] = []
 flat f (x ∷ xs) = f x ++ flat f xs
 
--- ---- the same bits in another grouping
+-- ---- the same bits, value or reader, written otherwise
 
 pub spells-as : {A : Type 0} {before : List ℕ} {p : Ask A} {bs cs : List ℕ} {a : A} → bs ≡ cs → Spells before p bs a → Spells before p cs a
 spells-as {before} {p} {a} e h = subst (λ ds. Spells before p ds a) e h
 
+pub spells-value : {A : Type 0} {before : List ℕ} {p : Ask A} {bs : List ℕ} {a b : A} → a ≡ b → Spells before p bs a → Spells before p bs b
+spells-value {before} {p} {bs} e h = subst (λ c. Spells before p bs c) e h
+
+pub spells-by : {A : Type 0} {before : List ℕ} {p q : Ask A} {bs : List ℕ} {a : A} → q ≡ p → Spells before p bs a → Spells before q bs a
+spells-by {before} {bs} {a} e h = subst (λ r. Spells before r bs a) (sym e) h
+
 -- ---- the questions
 
-join : (n acc v : ℕ) → (acc * 2 + v / 2 ^ n % 2) * 2 ^ n + v % 2 ^ n ≡ acc * 2 ^ suc n + v % 2 ^ suc n
-join n acc v =
-    let two : v % 2 ^ suc n ≡ v / 2 ^ n % 2 * 2 ^ n + v % 2 ^ n = ap (λ m. v % 2 ^ m) (let e : suc n ≡ 1 + n = omega arith in e) ∙ mod-pow-add v 1 n in
-    rw (two, pow-suc 2 n) (omega arith)
+-- one digit more, in any base
+pub digit : (b m acc v : ℕ) → 0 < b → 0 < m → (acc * b + v / m % b) * m + v % m ≡ acc * (m * b) + v % (m * b)
+digit b m acc v hb hm = omega (arith, split)
+  where
+    low : ℕ
+    low = v / m % b * m + v % m
+
+    whole : v ≡ v / m / b * (m * b) + low
+    whole = omega (arith, div-add-mod' v m, ap (λ q. q * m) (div-add-mod' (v / m) b))
+
+    below : low < m * b
+    below = omega (arith, mod-lt v hm, mul-le-mul-right m (mod-lt (v / m) hb))
+
+    split : v % (m * b) ≡ low
+    split = ap (λ x. x % (m * b)) whole ∙ mul-add-mod-self-right (v / m / b) (m * b) low ∙ mod-eq-of-lt below
 
 bits-found : (n acc i v : ℕ) (rest : List ℕ) → bitsFrom n acc i (bitsOf n v ++ rest) ≡ found (acc * 2 ^ n + v % 2 ^ n) (i + length (bitsOf n v))
 unfolding bitsFrom bitsOf
 bits-found zero acc i v rest = ap₂ found (rw (pow-zero 2, mul-one acc, mod-one v) (sym (add-zero acc))) (sym (add-zero i))
-bits-found (suc n) acc i v rest = bits-found n (acc * 2 + v / 2 ^ n % 2) (suc i) v rest ∙ ap₂ found (join n acc v) (omega arith)
+bits-found (suc n) acc i v rest = bits-found n (acc * 2 + v / 2 ^ n % 2) (suc i) v rest ∙ ap₂ found (digit 2 (2 ^ n) acc v (omega arith) (pow-pos n) ∙ rw pow-suc) (omega arith)
 
 zeros-found : (q z i : ℕ) (rest : List ℕ) → zerosFrom z i (unary q ++ rest) ≡ found (z + q) (i + length (unary q))
 unfolding zerosFrom unary
@@ -51,9 +68,9 @@ module _ {before : List ℕ} where
   spells-bits n {v} h = record {
     reads =
         λ rest.
-            ap (λ x. follow x got)
-            (ap (bitsFrom n 0 (length before)) (drop-append-seam before (bitsOf n v ++ rest)) ∙ bits-found n 0 (length before) v rest
-            ∙ ap (λ x. found x (length before + length (bitsOf n v))) (let e : v % 2 ^ n ≡ v = mod-eq-of-lt h in omega (arith, zero-mul (2 ^ n))));
+        ap (λ x. follow x got)
+        (ap (bitsFrom n 0 (length before)) (drop-append-seam before (bitsOf n v ++ rest)) ∙ bits-found n 0 (length before) v rest
+        ∙ ap (λ x. found x (length before + length (bitsOf n v))) (let e : v % 2 ^ n ≡ v = mod-eq-of-lt h in omega (arith, zero-mul (2 ^ n))));
   }
 
   pub spells-zeros : (q : ℕ) → Spells before zeros (unary q) q
@@ -61,9 +78,9 @@ module _ {before : List ℕ} where
   spells-zeros q = record {
     reads =
         λ rest.
-            ap (λ x. follow x got)
-            (ap (zerosFrom 0 (length before)) (drop-append-seam before (unary q ++ rest)) ∙ zeros-found q 0 (length before) rest
-            ∙ ap (λ x. found x (length before + length (unary q))) (zero-add q));
+        ap (λ x. follow x got)
+        (ap (zerosFrom 0 (length before)) (drop-append-seam before (unary q ++ rest)) ∙ zeros-found q 0 (length before) rest
+        ∙ ap (λ x. found x (length before + length (unary q))) (zero-add q));
   }
 
   pub spells-passed : Spells before passed [] before
@@ -81,10 +98,10 @@ module _ {before : List ℕ} where
   spells-bind {p} k {bs} {cs} {a} {b} h g = record {
     reads =
         λ rest.
-            ap (λ s. run (p >>= k) (before ++ s) (length before)) (append-assoc bs cs rest)
-            ∙ run-bind-got p k (before ++ (bs ++ (cs ++ rest))) (length before) (h .reads (cs ++ rest))
-            ∙ ap₂ (run (k a)) (sym (append-assoc before bs (cs ++ rest))) (sym (length-append before bs)) ∙ g .reads rest
-            ∙ ap (got b) (simp length-append (omega arith));
+        ap (λ s. run (p >>= k) (before ++ s) (length before)) (append-assoc bs cs rest)
+        ∙ run-bind-got p k (before ++ (bs ++ (cs ++ rest))) (length before) (h .reads (cs ++ rest))
+        ∙ ap₂ (run (k a)) (sym (append-assoc before bs (cs ++ rest))) (sym (length-append before bs)) ∙ g .reads rest
+        ∙ ap (got b) (simp length-append (omega arith));
   }
 
   -- what reads nothing
