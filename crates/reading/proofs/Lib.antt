@@ -1,4 +1,5 @@
 -- Laws of readers: what every tree obeys, and what the layers above cite.
+pub mod Spelling
 pub mod Prefix
 pub mod Bits
 pub mod Running

@@ -17,7 +17,7 @@ use Rattle.rfc9639.specs.Frame.{opening, widths, padding, footer, body, 
 use Rattle.reading.specs.Spelling.{bitsOf, unary, row, spelt, bytesOf, packed}
 use Rattle.rfc9639.specs.declared.FrameSetting.{FrameSetting}
 use Rattle.rfc9639.specs.Coding.{fold, riceBits, residualBits, residuals, fixedResiduals, plain, subframeHead, codedAs, same, uniform, counting, fixedOnes, candidates, fewestOf, fewest, cost, chosen, subframeBits}
-use Rattle.rfc9639.specs.Write.{Written, sizeCode, sizeBits, bitsCode, followers, numberBytes, codeBits, fieldBits, headerBits, laneOf, lanes, laneWidth, midOf, sideOf, channel, stored, laneBits, subframesBits, padded, footed, frameBits, frameBytes, writable, numberLimit, allowed, fits, allFit, unwritten, write}
+use Rattle.rfc9639.specs.Write.{Written, sizeCode, sizeBits, bitsCode, followers, numberBytes, codeBits, fieldBits, headerBits, laneOf, lanes, laneWidth, midOf, sideOf, channel, stored, laneBits, subframesBits, padded, footed, frameBits, frameBytes, mostBits, frameBound, writable, numberLimit, allowed, fits, allFit, unwritten, write}
 use Rattle.rfc9639.specs.Read.{Outcome, refusal, accepted, untouched, zeroed, cutShort, begun, finished, resultOf, result, read}
 
 -- the n bytes of a number, as a dump shows them
@@ -35,5 +35,5 @@ computed s b = read s b
 
 -- and this the writer's
 unfoldable pub computedWrite : FrameSetting → List ℤ → List ℕ → Written
-unfolding computed bitsOf unary row spelt bytesOf packed fold riceBits residualBits residuals fixedResiduals plain subframeHead codedAs same uniform counting fixedOnes candidates fewestOf fewest cost chosen subframeBits sizeCode sizeBits bitsCode followers numberBytes codeBits fieldBits headerBits laneOf lanes laneWidth midOf sideOf channel stored laneBits subframesBits padded footed frameBits frameBytes writable numberLimit allowed fits allFit unwritten write
+unfolding computed bitsOf unary row spelt bytesOf packed fold riceBits residualBits residuals fixedResiduals plain subframeHead codedAs same uniform counting fixedOnes candidates fewestOf fewest cost chosen subframeBits sizeCode sizeBits bitsCode followers numberBytes codeBits fieldBits headerBits laneOf lanes laneWidth midOf sideOf channel stored laneBits subframesBits padded footed frameBits frameBytes mostBits frameBound writable numberLimit allowed fits allFit unwritten write
 computedWrite set xs out = write set xs out

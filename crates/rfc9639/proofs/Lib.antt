@@ -5,3 +5,6 @@ pub mod Marked
 pub mod Published
 pub mod Ordered
 pub mod WrittenCases
+pub mod Choosing
+pub mod Costs
+pub mod Bound

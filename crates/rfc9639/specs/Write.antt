@@ -143,6 +143,15 @@ frameBits set xs = footed (padded (headerBits set ++ subframesBits set xs))
 unfoldable pub frameBytes : FrameSetting → List ℤ → List ℕ
 frameBytes set xs = packed (frameBits set xs)
 
+-- The most bits of subframes: for each channel a header of 8 and the samples as they are.
+unfoldable pub mostBits : ℕ → ℕ → List Lane → ℕ
+mostBits b n [] = 0
+mostBits b n (lane ∷ ls) = 8 + n * laneWidth b lane + mostBits b n ls
+
+-- the most bytes of a frame
+unfoldable pub frameBound : FrameSetting → ℕ
+frameBound set = 16 + (mostBits (set .bits) (set .size) (lanes (assignment (set .channels))) + 7) / 8
+
 -- ---- what writing comes to
 
 unfoldable pub writable : ℕ → Bool

@@ -1,0 +1,149 @@
+-- A frame's length, and that it is within the bound, whatever the settings and the samples are. Assumes nothing.
+use Prim.Native.Nat.{ℕ, zero, suc, _+_, _-_, _*_, _/_, _%_, _≤_, _<_, min}
+use native.Mathlib.Nat.{mul-le-mul-right, mul-comm, min-le-left}
+use native.Mathlib.Omega.{arith}
+use mathlib.Core.Path.{_≡_, refl, ap, ap₂, sym, _∙_}
+use mathlib.Core.Bool.{Bool, true, false, cond}
+use mathlib.Core.List.{List, [], _∷_, _++_}
+use lib.Dec.{leb, ltb, eqb}
+use lib.IntN.{ℤ}
+use lib.ListN.{length, take, drop, replicate, length-append, length-take, length-replicate}
+use Rattle.reading.specs.Bytes.{bitsOfBytes}
+use Rattle.reading.specs.Spelling.{bitsOf, row, packed}
+use Rattle.reading.proofs.Bits.{length-bits}
+use Rattle.reading.proofs.Spelling.{length-bitsOf, length-packed}
+use Rattle.rfc9639.specs.declared.FrameSetting.{FrameSetting}
+use Rattle.rfc9639.specs.declared.Lane.{Lane}
+use Rattle.rfc9639.specs.declared.Lane.the-variants.{Channel, Mid, Side}
+use Rattle.rfc9639.specs.CheckSums.{crc8, crc16}
+use Rattle.rfc9639.specs.Header.{assignment}
+use Rattle.rfc9639.specs.Stereo.{pairwise}
+use Rattle.rfc9639.specs.Frame.{padding}
+use Rattle.rfc9639.specs.Coding.{cost, subframeBits, chosen}
+use Rattle.rfc9639.specs.Write.{sizeCode, sizeBits, followers, numberBytes, codeBits, fieldBits, headerBits, lanes, laneWidth, midOf, sideOf, channel, stored, laneBits, subframesBits, padded, footed, frameBits, frameBytes, mostBits, frameBound}
+use Rattle.rfc9639.proofs.Choosing.{chosen-at-most-verbatim}
+use Rattle.rfc9639.proofs.Costs.{cost-verbatim}
+use Rattle.rfc9639.proofs.Computing.{computedWrite}
+
+-- ---- the header
+
+-- n bytes behind the first
+length-followers : (n v : ℕ) → length (followers n v) ≡ n
+unfolding followers
+length-followers zero v = refl
+length-followers (suc n) v = ap suc (length-followers n v)
+
+-- either of two
+either : {A : Type 0} (P : A → Type 0) (b : Bool) {x y : A} → P x → P y → P (cond b x y)
+either P true p q = p
+either P false p q = q
+
+number-at-most : (v : ℕ) → length (numberBytes v) ≤ 7
+unfolding numberBytes followers
+number-at-most v =
+    let P : List ℕ → Type 0 = λ l. length l ≤ 7 in
+    either P (ltb v 0x80) (omega arith)
+    (either P (ltb v 0x800) (omega arith)
+    (either P (ltb v 0x1_0000) (omega arith)
+    (either P (ltb v 0x20_0000) (omega arith)
+    (either P (ltb v 0x400_0000) (omega arith)
+    (either P (ltb v 0x8000_0000) (omega arith) (omega arith))))))
+
+size-at-most : (n : ℕ) → length (sizeBits n) ≤ 16
+unfolding sizeBits bitsOf
+size-at-most n =
+    let P : List ℕ → Type 0 = λ l. length l ≤ 16 in
+    either P (eqb (sizeCode n) 6) (omega arith) (either P (eqb (sizeCode n) 7) (omega arith) (omega arith))
+
+length-codes : (set : FrameSetting) → length (codeBits set) ≡ 32
+unfolding codeBits bitsOf
+length-codes set = refl
+
+header-at-most : (set : FrameSetting) → length (headerBits set) ≤ 112
+unfolding headerBits fieldBits
+header-at-most set =
+    let number = bitsOfBytes (numberBytes (set .number)) in
+    let fields = fieldBits set in
+    omega (
+      arith,
+      length-append fields (bitsOf 8 (crc8 fields)),
+      length-bitsOf 8 (crc8 fields),
+      length-append (codeBits set ++ number) (sizeBits (set .size)),
+      length-append (codeBits set) number,
+      length-codes set,
+      length-bits (numberBytes (set .number)),
+      number-at-most (set .number),
+      size-at-most (set .size),
+    )
+
+-- ---- the subframes
+
+pairwise-at-most : (f : ℤ → ℤ → ℤ) (xs ys : List ℤ) → length (pairwise f xs ys) ≤ length xs
+unfolding pairwise
+pairwise-at-most f [] ys = omega arith
+pairwise-at-most f (x ∷ xs) [] = omega arith
+pairwise-at-most f (x ∷ xs) (y ∷ ys) = let ih = pairwise-at-most f xs ys in omega arith
+
+channel-at-most : (n : ℕ) (xs : List ℤ) (c : ℕ) → length (channel n xs c) ≤ n
+unfolding channel
+channel-at-most n xs c = omega (arith, length-take n (drop (c * n) xs), min-le-left n (length (drop (c * n) xs)))
+
+stored-at-most : (n : ℕ) (xs : List ℤ) (lane : Lane) → length (stored n xs lane) ≤ n
+unfolding stored
+stored-at-most n xs (Channel c) = channel-at-most n xs c
+stored-at-most n xs Mid = omega (arith, pairwise-at-most midOf (channel n xs 0) (channel n xs 1), channel-at-most n xs 0)
+stored-at-most n xs Side = omega (arith, pairwise-at-most sideOf (channel n xs 0) (channel n xs 1), channel-at-most n xs 0)
+
+subframe-at-most : (w : ℕ) (xs : List ℤ) → length (subframeBits w xs) ≤ 8 + length xs * w
+unfolding subframeBits cost
+subframe-at-most w xs = omega (arith, chosen-at-most-verbatim xs w, cost-verbatim w xs)
+
+lane-at-most : (b n : ℕ) (xs : List ℤ) (lane : Lane) → length (laneBits b n xs lane) ≤ 8 + n * laneWidth b lane
+unfolding laneBits
+lane-at-most b n xs lane =
+    omega (arith, subframe-at-most (laneWidth b lane) (stored n xs lane), mul-le-mul-right (laneWidth b lane) (stored-at-most n xs lane))
+
+subframes-at-most : (b n : ℕ) (xs : List ℤ) (ls : List Lane) → length (row (laneBits b n xs) ls) ≤ mostBits b n ls
+unfolding row mostBits
+subframes-at-most b n xs [] = omega arith
+subframes-at-most b n xs (lane ∷ ls) =
+    omega (arith, length-append (laneBits b n xs lane) (row (laneBits b n xs) ls), lane-at-most b n xs lane, subframes-at-most b n xs ls)
+
+-- ---- the frame
+
+length-padded : (s : List ℕ) → length (padded s) ≡ 8 * ((length s + 7) / 8)
+unfolding padded padding
+length-padded s =
+    omega (arith, length-append s (replicate ((8 - length s % 8) % 8) 0), length-replicate {A = ℕ} ((8 - length s % 8) % 8) 0)
+
+-- so many bytes as hold the header and the subframes, and two
+pub length-frame : (set : FrameSetting) (xs : List ℤ) → length (frameBytes set xs) ≡ (length (headerBits set ++ subframesBits set xs) + 7) / 8 + 2
+unfolding frameBytes frameBits footed
+length-frame set xs =
+    let whole = padded (headerBits set ++ subframesBits set xs) in
+    length-packed (whole ++ bitsOf 16 (crc16 whole))
+    ∙ (let e : length (whole ++ bitsOf 16 (crc16 whole)) / 8 ≡ (length (headerBits set ++ subframesBits set xs) + 7) / 8 + 2 = omega (arith, length-append whole (bitsOf 16 (crc16 whole)), length-bitsOf 16 (crc16 whole), length-padded (headerBits set ++ subframesBits set xs)) in e)
+
+pub within-bound : (set : FrameSetting) (xs : List ℤ) → length (frameBytes set xs) ≤ frameBound set
+unfolding frameBound subframesBits
+within-bound set xs =
+    let ls = lanes (assignment (set .channels)) in
+    omega (
+      arith,
+      length-frame set xs,
+      length-append (headerBits set) (row (laneBits (set .bits) (set .size) xs) ls),
+      header-at-most set,
+      subframes-at-most (set .bits) (set .size) xs ls,
+    )
+
+-- ---- document 01's bound checks
+
+pub record BoundChecks : Type 0 where
+  -- one 16-bit channel, block 1
+  pub mono-1 : frameBound (record { channels = 0; bits = 16; blocking = 0; number = 0; size = 1 }) ≡ 19
+  -- left/side, 16 bits, block 4096
+  pub left-side-4096 : frameBound (record { channels = 8; bits = 16; blocking = 0; number = 0; size = 4096 }) ≡ 16914
+
+pub bound-checks : BoundChecks
+unfolding computedWrite
+bound-checks = record { mono-1 = refl; left-side-4096 = refl }
