@@ -1,23 +1,40 @@
 -- The coded number is read back (RFC 9639 section 9.1.5): one law over the count of bytes behind the first. Assumes nothing.
 use Prim.Native.Nat.{ℕ, zero, suc, _+_, _*_, _/_, _%_, _^_, _<_}
-use native.Mathlib.Nat.{div-add-mod', pow-suc, one-le-pow}
+use native.Mathlib.Nat.{div-add-mod', mod-lt, mod-eq-of-lt, mul-add-mod-self-right, mul-le-mul-right, pow-suc, one-le-pow}
 use native.Mathlib.Omega.{arith}
-use mathlib.Core.Path.{_≡_, refl, ap, _∙_}
+use mathlib.Core.Path.{_≡_, ap, sym, _∙_}
 use mathlib.Core.Bool.{Bool, true, false, cond}
 use mathlib.Core.List.{List, [], _∷_, _++_}
 use borrow.Author.Tests.{ltb-true, lt-ltb, eq-eqb}
 use lib.Dec.{ltb}
 use Rattle.reading.specs.Reading.{Ask, done, stop}
-use Rattle.reading.specs.Bytes.{bitsOfByte, bitsOfBytes}
+use Rattle.reading.specs.Bytes.{bitsOfBytes}
 use Rattle.reading.specs.Spelling.{bitsOf}
+use Rattle.reading.proofs.Spelling.{bitsOfByte-is}
 use Rattle.rfc9639.specs.Number.{followed, numberFrom, codedNumber}
 use Rattle.rfc9639.specs.Write.{followers, numberBytes}
 use Rattle.readback.proofs.Tests.{tested, by-test, Taken, valueAt, rung}
-use Rattle.readback.proofs.Spells.{Spells, spells-as, spells-value, spells-by, digit, spells-bits, spells-done, spells-bind, spells-checked}
+use Rattle.readback.proofs.Spells.{Spells, spells-as, spells-value, spells-by, spells-bits, spells-done, spells-bind, spells-checked}
 
 byte-bits : (b : ℕ) (bs : List ℕ) → bitsOf 8 b ++ bitsOfBytes bs ≡ bitsOfBytes (b ∷ bs)
-unfolding bitsOf bitsOfByte bitsOfBytes
-byte-bits b bs = refl
+unfolding bitsOfBytes
+byte-bits b bs = ap (λ s. s ++ bitsOfBytes bs) (sym (bitsOfByte-is b))
+
+-- one digit more, in any base
+digit : (b m acc v : ℕ) → 0 < b → 0 < m → (acc * b + v / m % b) * m + v % m ≡ acc * (m * b) + v % (m * b)
+digit b m acc v hb hm = omega (arith, split)
+  where
+    low : ℕ
+    low = v / m % b * m + v % m
+
+    whole : v ≡ v / m / b * (m * b) + low
+    whole = omega (arith, div-add-mod' v m, ap (λ q. q * m) (div-add-mod' (v / m) b))
+
+    below : low < m * b
+    below = omega (arith, mod-lt v hm, mul-le-mul-right m (mod-lt (v / m) hb))
+
+    split : v % (m * b) ≡ low
+    split = ap (λ x. x % (m * b)) whole ∙ mul-add-mod-self-right (v / m / b) (m * b) low ∙ mod-eq-of-lt below
 
 spells-followed : (n acc v : ℕ) {before : List ℕ} → Spells before (followed n acc) (bitsOfBytes (followers n v)) (acc * 64 ^ n + v % 64 ^ n)
 unfolding followed followers bitsOfBytes

@@ -1,18 +1,18 @@
 -- Bits that spell a value: what a reader gets of them, whatever follows, and that it passes them all. One law for each way
 -- in which a reader is made. Assumes nothing.
-use Prim.Native.Nat.{ℕ, zero, suc, _+_, _*_, _/_, _%_, _^_, _<_}
-use native.Mathlib.Nat.{add-zero, zero-add, zero-mul, mul-one, pow-zero, pow-suc, mod-one, mod-lt, mod-eq-of-lt, div-add-mod', mul-add-mod-self-right, mul-le-mul-right}
+use Prim.Native.Nat.{ℕ, zero, suc, _+_, _*_, _^_, _<_}
+use native.Mathlib.Nat.{add-zero, zero-add, zero-mul, mod-eq-of-lt}
 use native.Mathlib.Omega.{arith}
-use mathlib.Core.Path.{_≡_, refl, ap, ap₂, sym, _∙_, subst}
-use mathlib.Core.Bool.{Bool, true, false, cond}
+use mathlib.Core.Path.{_≡_, ap, ap₂, sym, _∙_, subst}
+use mathlib.Core.Bool.{Bool, true}
 use mathlib.Core.List.{List, [], _∷_, _++_, map, append-assoc, append-nil}
-use lib.ListN.{length, take, drop, replicate, length-append}
-use lib.Pow.{pow-pos}
+use lib.ListN.{length, length-append}
 use lib.Seq.{drop-append-seam, take-append-seam}
-use Rattle.reading.specs.Reading.{Ask, done, _>>=_, bits, zeros, passed, require, many, each, found, bitsFrom, zerosFrom, answer, follow, Got, got, run}
-use Rattle.reading.specs.Spelling.{bitsOf, unary, row}
+use Rattle.reading.specs.Reading.{Ask, done, _>>=_, bits, zeros, passed, require, many, each, found, bitsFrom, zerosFrom, answer, follow, got, run}
+use Rattle.reading.specs.Spelling.{bitsOf, unary, row, spelt}
 use Rattle.reading.proofs.Running.{run-bind-got}
 use Rattle.reading.proofs.Holding.{Every}
+use Rattle.reading.proofs.Spelling.{length-bitsOf, spelt-bitsOf}
 
 -- behind the bits `before`, the bits `bs` are what p reads as a
 pub record Spells {A : Type 0} (before : List ℕ) (p : Ask A) (bs : List ℕ) (a : A) : Type 0 where
@@ -36,26 +36,10 @@ spells-by {before} {bs} {a} e h = subst (λ r. Spells before r bs a) (sym e) h
 
 -- ---- the questions
 
--- one digit more, in any base
-pub digit : (b m acc v : ℕ) → 0 < b → 0 < m → (acc * b + v / m % b) * m + v % m ≡ acc * (m * b) + v % (m * b)
-digit b m acc v hb hm = omega (arith, split)
-  where
-    low : ℕ
-    low = v / m % b * m + v % m
-
-    whole : v ≡ v / m / b * (m * b) + low
-    whole = omega (arith, div-add-mod' v m, ap (λ q. q * m) (div-add-mod' (v / m) b))
-
-    below : low < m * b
-    below = omega (arith, mod-lt v hm, mul-le-mul-right m (mod-lt (v / m) hb))
-
-    split : v % (m * b) ≡ low
-    split = ap (λ x. x % (m * b)) whole ∙ mul-add-mod-self-right (v / m / b) (m * b) low ∙ mod-eq-of-lt below
-
-bits-found : (n acc i v : ℕ) (rest : List ℕ) → bitsFrom n acc i (bitsOf n v ++ rest) ≡ found (acc * 2 ^ n + v % 2 ^ n) (i + length (bitsOf n v))
-unfolding bitsFrom bitsOf
-bits-found zero acc i v rest = ap₂ found (rw (pow-zero 2, mul-one acc, mod-one v) (sym (add-zero acc))) (sym (add-zero i))
-bits-found (suc n) acc i v rest = bits-found n (acc * 2 + v / 2 ^ n % 2) (suc i) v rest ∙ ap₂ found (digit 2 (2 ^ n) acc v (omega arith) (pow-pos n) ∙ rw pow-suc) (omega arith)
+bits-found : (bs : List ℕ) (acc i : ℕ) (rest : List ℕ) → bitsFrom (length bs) acc i (bs ++ rest) ≡ found (spelt acc bs) (i + length bs)
+unfolding bitsFrom spelt
+bits-found [] acc i rest = ap (found acc) (sym (add-zero i))
+bits-found (b ∷ bs) acc i rest = bits-found bs (acc * 2 + b) (suc i) rest ∙ ap (found (spelt (acc * 2 + b) bs)) (omega arith)
 
 zeros-found : (q z i : ℕ) (rest : List ℕ) → zerosFrom z i (unary q ++ rest) ≡ found (z + q) (i + length (unary q))
 unfolding zerosFrom unary
@@ -68,9 +52,10 @@ module _ {before : List ℕ} where
   spells-bits n {v} h = record {
     reads =
         λ rest.
+        let bs = bitsOf n v in
         ap (λ x. follow x got)
-        (ap (bitsFrom n 0 (length before)) (drop-append-seam before (bitsOf n v ++ rest)) ∙ bits-found n 0 (length before) v rest
-        ∙ ap (λ x. found x (length before + length (bitsOf n v))) (let e : v % 2 ^ n ≡ v = mod-eq-of-lt h in omega (arith, zero-mul (2 ^ n))));
+        (ap₂ (λ m s. bitsFrom m 0 (length before) s) (sym (length-bitsOf n v)) (drop-append-seam before (bs ++ rest)) ∙ bits-found bs 0 (length before) rest
+        ∙ ap (λ x. found x (length before + length bs)) (spelt-bitsOf 0 n v ∙ omega (arith, mod-eq-of-lt h, zero-mul (2 ^ n))));
   }
 
   pub spells-zeros : (q : ℕ) → Spells before zeros (unary q) q

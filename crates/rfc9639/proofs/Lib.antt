@@ -1,5 +1,7 @@
 -- The definition computes: the examples that document 01 marks, published frames, and the order of the checks.
+pub mod CheckSums
 pub mod Widths
+pub mod Magnitudes
 pub mod Computing
 pub mod Marked
 pub mod Published
