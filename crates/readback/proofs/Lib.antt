@@ -2,3 +2,5 @@
 pub mod Spells
 pub mod Tests
 pub mod Number
+pub mod Allowed
+pub mod Header

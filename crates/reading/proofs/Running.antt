@@ -22,11 +22,11 @@ pub record In (s : List ℕ) (p : Place) : Type 0 where
   pub bit : p .bit < 8
   pub end : position p ≤ 8 * length s
 
-and-fst : (a b : Bool) → (a && b) ≡ true → a ≡ true
+pub and-fst : (a b : Bool) → (a && b) ≡ true → a ≡ true
 and-fst true b e = refl
 and-fst false b e = e
 
-and-snd : (a b : Bool) → (a && b) ≡ true → b ≡ true
+pub and-snd : (a b : Bool) → (a && b) ≡ true → b ≡ true
 and-snd true b e = e
 and-snd false true e = refl
 and-snd false false e = e
