@@ -4,3 +4,5 @@ pub mod Tests
 pub mod Number
 pub mod Allowed
 pub mod Header
+pub mod Samples
+pub mod Prediction

@@ -108,16 +108,17 @@ module _ {before : List ℕ} where
       → Spells before (require b n >>= k) cs a
   spells-checked n k e g = spells-then k (spells-require n e) g
 
--- ---- lists
+-- ---- lists of what was read, where P holds of each
 
-pub spells-many : {A : Type 0} (p : Ask A) (f : A → List ℕ) (xs : List A) → Every (λ x. (before : List ℕ) → Spells before p (f x) x) xs
-    → {before : List ℕ} → Spells before (many (length xs) p) (row f xs) xs
-unfolding many row
-spells-many p f [] h = spells-done
-spells-many p f (x ∷ xs) h {before} = spells-bind _ (h .0 before) (spells-last _ (spells-many p f xs (h .1)) spells-done)
+module _ {A : Type 0} (P : A → Type 0) (f : A → List ℕ) where
+  pub spells-many : (p : Ask A) → ((x : A) → P x → (before : List ℕ) → Spells before p (f x) x) → (xs : List A) → Every P xs
+      → {before : List ℕ} → Spells before (many (length xs) p) (row f xs) xs
+  unfolding many row
+  spells-many p g [] h = spells-done
+  spells-many p g (x ∷ xs) h = spells-bind _ (g x (h .0) _) (spells-last _ (spells-many p g xs (h .1)) spells-done)
 
-pub spells-each : {A B C : Type 0} (p : A → Ask (List B)) (f : C → List ℕ) (g : C → List B) (w : C → A) (cs : List C) → Every (λ c. (before : List ℕ) → Spells before (p (w c)) (f c) (g c)) cs
-    → {before : List ℕ} → Spells before (each p (map w cs)) (row f cs) (flat g cs)
-unfolding each row flat
-spells-each p f g w [] h = spells-done
-spells-each p f g w (c ∷ cs) h {before} = spells-bind _ (h .0 before) (spells-last _ (spells-each p f g w cs (h .1)) spells-done)
+  pub spells-each : {B C : Type 0} (p : C → Ask (List B)) (w : A → C) (v : A → List B) → ((x : A) → P x → (before : List ℕ) → Spells before (p (w x)) (f x) (v x))
+      → (xs : List A) → Every P xs → {before : List ℕ} → Spells before (each p (map w xs)) (row f xs) (flat v xs)
+  unfolding each row flat
+  spells-each p w v g [] h = spells-done
+  spells-each p w v g (x ∷ xs) h = spells-bind _ (g x (h .0) _) (spells-last _ (spells-each p w v g xs (h .1)) spells-done)
