@@ -6,3 +6,4 @@ pub mod Allowed
 pub mod Header
 pub mod Samples
 pub mod Prediction
+pub mod Subframe
