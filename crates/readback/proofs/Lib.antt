@@ -7,3 +7,4 @@ pub mod Header
 pub mod Samples
 pub mod Prediction
 pub mod Subframe
+pub mod Stereo

@@ -20,7 +20,7 @@ use Rattle.rfc9639.specs.Integers.{low, sample, shiftUp}
 use Rattle.rfc9639.specs.Subframe.{subframeType, wastedBits, wastedJudged, kindAndWasted, subframeHeader, orderOf, fixed, samples, subframeBehind, subframe}
 use Rattle.rfc9639.specs.Coding.{fixedResiduals, residualBits, plain, subframeHead, codedAs, same, uniform, subframeBits}
 use Rattle.rfc9639.proofs.Widths.{Fits, fits-mono, shiftUp-exact}
-use Rattle.rfc9639.proofs.Residuals.{length-fixedResiduals}
+use Rattle.rfc9639.proofs.Lengths.{length-fixedResiduals}
 use Rattle.rfc9639.proofs.Choosing as Choosing
 use Rattle.rfc9639.proofs.Choosing.{chosen-open}
 use Rattle.readback.proofs.Spells.{Spells, spells-as, spells-value, spells-by, spells-bits, spells-done, spells-bind, spells-then, spells-last, spells-checked}

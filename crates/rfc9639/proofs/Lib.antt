@@ -2,7 +2,7 @@
 pub mod CheckSums
 pub mod Widths
 pub mod Magnitudes
-pub mod Residuals
+pub mod Lengths
 pub mod Computing
 pub mod Marked
 pub mod Published
