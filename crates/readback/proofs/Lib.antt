@@ -8,3 +8,5 @@ pub mod Samples
 pub mod Prediction
 pub mod Subframe
 pub mod Stereo
+pub mod Pairs
+pub mod Lanes

@@ -99,7 +99,7 @@ module _ (w : ℕ) (xs : List ℤ) where
       go false = fewest-is (cost w xs) Verbatim fixedAll
 
 -- each number of a row is of the row
-counted : (P : ℕ → Type 0) (a n : ℕ) → ((i : ℕ) → i < a + n → P i) → Every P (counting a n)
+pub counted : (P : ℕ → Type 0) (a n : ℕ) → ((i : ℕ) → i < a + n → P i) → Every P (counting a n)
 unfolding counting
 counted P a zero f = tt
 counted P a (suc n) f = (f a (omega arith), counted P (suc a) n (λ i h. f i (omega arith)))
