@@ -1,9 +1,9 @@
 -- What a word keeps of a number to which some bits are added: its last bits. Assumes nothing.
 use Prim.Native.Nat.{ℕ, _+_, _*_, _-_, _%_, _^_, _≤_, _<_}
-use native.Mathlib.Nat.{add-comm, add-zero, mod-eq-of-lt, one-mul}
+use native.Mathlib.Nat.{add-comm, add-zero}
 use native.Mathlib.Omega.{arith}
 use mathlib.Core.Path.{_≡_, ap, ap₂, sym, _∙_}
-use lib.Pow.{pow-pos, pow-lt, mod-pow-add, mod-mod-pow, high, low}
+use lib.Pow.{pow-pos, mod-pow-add, mod-mod-pow, high, low}
 
 join-low : (a j m : ℕ) {x : ℕ} → x < 2 ^ m → (a * 2 ^ m + x) % 2 ^ (j + m) ≡ a % 2 ^ j * 2 ^ m + x
 join-low a j m {x} h = mod-pow-add (a * 2 ^ m + x) j m ∙ ap₂ (λ (y z : ℕ). y % 2 ^ j * 2 ^ m + z) (high a m h) (low a m h)
@@ -19,6 +19,3 @@ shift a j m =
 -- a word of w bits that is shifted, and m bits added, is the word of the number so made
 pub grown : (w a m : ℕ) {x : ℕ} → m ≤ w → x < 2 ^ m → (a % 2 ^ w * 2 ^ m) % 2 ^ w + x ≡ (a * 2 ^ m + x) % 2 ^ w
 grown w a m {x} l h = rw (let e : w ≡ (w - m) + m = omega arith in e) (ap (λ (y : ℕ). y + x) (shift a (w - m) m) ∙ sym (join-low a (w - m) m h))
-
-pub one-shifted : (m : ℕ) → m < 64 → (1 * 2 ^ m) % 2 ^ 64 ≡ 2 ^ m
-one-shifted m h = ap (λ (y : ℕ). y % 2 ^ 64) (one-mul (2 ^ m)) ∙ mod-eq-of-lt (pow-lt h)

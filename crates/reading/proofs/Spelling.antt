@@ -5,7 +5,7 @@ use native.Mathlib.Numerals.{add-one, one-add}
 use native.Mathlib.Omega.{arith}
 use mathlib.Core.Path.{_≡_, refl, ap, ap₂, sym, _∙_}
 use mathlib.Core.List.{List, [], _∷_, _++_, append-assoc}
-use lib.ListN.{length, take, drop, replicate, length-append, length-replicate, length-drop, take-append-drop}
+use lib.ListN.{length, take, drop, replicate, length-append, length-replicate, replicate-append-replicate, length-drop, take-append-drop}
 use lib.Seq.{length-take-le}
 use lib.Pow.{pow-pos, pow-lt, shr-shr, mod-pow-add, mod-mod-pow, field}
 use Rattle.reading.specs.Bytes.{bitsOfByte, bitsOfBytes}
@@ -90,6 +90,13 @@ pub unary-bits : (q : ℕ) → bitsOf (suc q) 1 ≡ unary q
 unfolding bitsOf unary
 unary-bits zero = refl
 unary-bits (suc q) = ap₂ (λ b s. b % 2 ∷ s) (div-eq-of-lt (pow-lt {i = 0} {j = suc q} (omega arith))) (unary-bits q)
+
+-- m zeros more
+pub unary-more : (m q : ℕ) → unary (m + q) ≡ bitsOf m 0 ++ unary q
+unfolding unary
+unary-more m q =
+    ap (λ z. z ++ (1 ∷ [])) (sym (replicate-append-replicate m q 0)) ∙ append-assoc (replicate m 0) (replicate q 0) (1 ∷ [])
+    ∙ ap (λ z. z ++ (replicate q 0 ++ (1 ∷ []))) (sym (bitsOf-zero m))
 
 -- ---- things in a row
 

@@ -2,7 +2,7 @@
 use borrow.Author.Needs.{needs}
 use native.Mathlib.Omega.{arith}
 use lib.Pow.{pow-pos}
-use Rattle.input.proofs.Words.{one-shifted}
+use Rattle.reading.proofs.Bits.{one-shifted}
 use Rattle.input.proofs.chunk.Statement.{statement}
 use Rattle.input.proofs.chunk.Tie as tie
 

@@ -1,0 +1,2 @@
+-- What a pen does.
+pub mod Ink

@@ -1,0 +1,3 @@
+-- What the exported functions report.
+pub mod Reporting
+pub mod Outcome
