@@ -40,6 +40,12 @@ widths-lanes LeftSide b = refl
 widths-lanes SideRight b = refl
 widths-lanes MidSide b = refl
 
+pub width-within : (b : ℕ) (lane : Lane) → (b ≤ laneWidth b lane) × (laneWidth b lane ≤ b + 1)
+unfolding laneWidth
+width-within b (Channel c) = omega arith
+width-within b Mid = omega arith
+width-within b Side = omega arith
+
 -- ---- the lanes of a frame
 
 -- n samples that fit the lane's width

@@ -10,3 +10,5 @@ pub mod Subframe
 pub mod Stereo
 pub mod Pairs
 pub mod Lanes
+pub mod Frame
+pub mod ReadBack

@@ -111,7 +111,7 @@ subframes-at-most b n xs (lane ∷ ls) =
 
 -- ---- the frame
 
-length-padded : (s : List ℕ) → length (padded s) ≡ 8 * ((length s + 7) / 8)
+pub length-padded : (s : List ℕ) → length (padded s) ≡ 8 * ((length s + 7) / 8)
 unfolding padded padding
 length-padded s =
     omega (arith, length-append s (replicate ((8 - length s % 8) % 8) 0), length-replicate {A = ℕ} ((8 - length s % 8) % 8) 0)

@@ -11,3 +11,4 @@ pub mod WrittenCases
 pub mod Choosing
 pub mod Costs
 pub mod Bound
+pub mod Whole
