@@ -26,7 +26,11 @@ use Rattle.readback.proofs.Header.{headerOf, spells-header}
 use Rattle.readback.proofs.Subframe.{spells-subframe}
 use Rattle.readback.proofs.Lanes.{Held, widths-lanes, width-within, lanes-held, joined-lanes}
 
-spells-footer : {before : List ℕ} → Spells before footer (replicate (padding (length before)) 0 ++ bitsOf 16 (crc16 (padded before))) tt
+-- what is behind the subframes
+abbrev footerBits : List ℕ → List ℕ
+footerBits before = replicate (padding (length before)) 0 ++ bitsOf 16 (crc16 (padded before))
+
+spells-footer : {before : List ℕ} → Spells before footer (footerBits before) tt
 unfolding footer padded
 spells-footer {before} =
     spells-then _ spells-passed
@@ -59,7 +63,7 @@ module _ (set : FrameSetting) (xs : List ℤ) (ok : Allowed set (length xs)) (fi
       (spells-each (Held (set .bits) (set .size) xs) (laneBits (set .bits) (set .size) xs) (subframe (set .size)) (laneWidth (set .bits)) (stored (set .size) xs) spells-lane (lanes a)
       (lanes-held (set .size) xs some (ok .depth .most) fit a (ok .samples)))
 
-  spells-body : Spells (headerBits set) (body (headerOf set)) (subframesBits set xs ++ (replicate (padding (length (headerBits set ++ subframesBits set xs))) 0 ++ bitsOf 16 (crc16 (padded (headerBits set ++ subframesBits set xs))))) xs
+  spells-body : Spells (headerBits set) (body (headerOf set)) (subframesBits set xs ++ footerBits (headerBits set ++ subframesBits set xs)) xs
   unfolding body
   spells-body =
       spells-bind _ spells-subframes

@@ -19,7 +19,7 @@ use Rattle.rfc9639.specs.declared.BlockTime.the-variants.{FrameNumber, SampleNu
 use Rattle.rfc9639.specs.declared.FrameHeader.{FrameHeader}
 use Rattle.rfc9639.specs.Header.{assignment, channelCount, timeOf, firstSample}
 use Rattle.rfc9639.specs.Frame.{Frame, frame}
-use Rattle.rfc9639.specs.Read.{accepted, read}
+use Rattle.rfc9639.specs.Read.{Report, accepted, read}
 use Rattle.rfc9639.specs.Write.{frameBits, frameBytes, allowed, allFit}
 use Rattle.rfc9639.proofs.Whole.{length-frameBits, bits-of-frame}
 use Rattle.demands.proofs.Answers.{frame-result}
@@ -54,13 +54,24 @@ module _ (set : FrameSetting) (xs : List ℤ) (rest : List ℕ) (room : ℕ) whe
   end = record { byte = length (frameBytes set xs); bit = 0 }
 
   -- bytes whose bits spell the frame, from the first on
-  run-frame : Spells [] (frame (record { room = room })) (frameBits set xs) written → runAt (frame (record { room = room })) (frameBytes set xs ++ rest) (placeOf 0) ≡ gotAt written end
+  run-frame : Spells [] (frame (record { room = room })) (frameBits set xs) written
+      → runAt (frame (record { room = room })) (frameBytes set xs ++ rest) (placeOf 0) ≡ gotAt written end
   unfolding toAt
   run-frame s =
       runAt-in (frame (record { room = room })) (start-in (frameBytes set xs ++ rest))
       ∙ ap (λ t. toAt (run (frame (record { room = room })) t 0)) (bits-append (frameBytes set xs) rest ∙ ap (λ t. t ++ bitsOfBytes rest) (bits-of-frame set xs))
       ∙ ap toAt (s .reads (bitsOfBytes rest))
       ∙ ap (gotAt written) (sym (place-is (length (frameBytes set xs)) 0 (0 + length (frameBits set xs)) (omega arith) (omega (arith, length-frameBits set xs))))
+
+abbrev reported : FrameSetting → ℕ → ℕ → Report
+reported set consumed first = record {
+  number = 0;
+  consumed = consumed;
+  first = first;
+  channels = channelCount (assignment (set .channels));
+  bits = set .bits;
+  size = set .size;
+}
 
 pub read-back : (set : FrameSetting) (xs : List ℤ) → allowed set (length xs) ≡ true → allFit (set .bits) xs ≡ true
     → (rest : List ℕ) (buffer : List ℤ) → length xs ≤ length buffer
@@ -81,4 +92,4 @@ read-back set xs ok fit rest buffer room =
     let spells = spells-frame set xs (allowed-facts set (length xs) ok) (all-fit-facts (set .bits) xs fit) (length buffer) room in
     ap (λ r. record { report = r .report; buffer = r .front ++ drop (length (r .front)) buffer })
     (frame-result (record { room = length buffer }) (frameBytes set xs ++ rest) (run-frame set xs rest (length buffer) spells))
-    ∙ ap (λ n. record { report = record { number = 0; consumed = length (frameBytes set xs); first = n; channels = channelCount (assignment (set .channels)); bits = set .bits; size = set .size }; buffer = xs ++ drop (length xs) buffer }) (first-is set)
+    ∙ ap (λ n. record { report = reported set (length (frameBytes set xs)) n; buffer = xs ++ drop (length xs) buffer }) (first-is set)

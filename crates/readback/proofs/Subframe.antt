@@ -81,6 +81,9 @@ kind-of (suc (suc (suc (suc zero)))) h = refl
 kind-of (suc (suc (suc (suc (suc order))))) h = absurd (omega arith)
 
 module _ (w : ℕ) (h : 1 ≤ w) (most : w ≤ 25) (xs : List ℤ) (fit : Every (Fits w) xs) where
+  fit-in : (v : ℕ) → w ≤ v → Every (Fits v) xs
+  fit-in v l = every-imp (λ x f. fits-mono l f) xs fit
+
   module _ {before : List ℕ} where
     -- behind a header that wastes no bits
     spells-kind : (code : ℕ) (kind : SubframeType) {bs : List ℕ} → code < 64 → subframeType code ≡ done kind → orderOf kind ≤ length xs
@@ -90,7 +93,7 @@ module _ (w : ℕ) (h : 1 ≤ w) (most : w ≤ 25) (xs : List ℤ) (fit : Every 
         spells-bind _ (spells-head w h code l e)
         (spells-checked 9 _ (le-leb (orderOf kind) (length xs) o)
         (spells-last _ (spells-by (ap (λ v. samples kind v (length xs)) (sub-zero w)) s)
-        (spells-value (map-shiftUp-none xs (every-imp (λ x f. fits-mono (omega arith) f) xs fit)) spells-done)))
+        (spells-value (map-shiftUp-none xs (fit-in 32 (omega arith))) spells-done)))
 
     spells-verbatim : Spells before (subframe (length xs) w) (codedAs Candidate.Verbatim w xs) xs
     unfolding codedAs samples subframeType orderOf
@@ -100,7 +103,8 @@ module _ (w : ℕ) (h : 1 ≤ w) (most : w ≤ 25) (xs : List ℤ) (fit : Every 
     unfolding codedAs samples plain row subframeType orderOf
     spells-constant some u = spells-kind 0 Constant (omega arith) refl (omega arith) (go xs fit some u)
       where
-        go : (ys : List ℤ) → Every (Fits w) ys → 1 ≤ length ys → uniform ys ≡ true → Spells (before ++ subframeHead 0) (samples Constant w (length ys)) (plain w (take 1 ys)) ys
+        go : (ys : List ℤ) → Every (Fits w) ys → 1 ≤ length ys → uniform ys ≡ true
+            → Spells (before ++ subframeHead 0) (samples Constant w (length ys)) (plain w (take 1 ys)) ys
         go [] f s u = absurd (omega arith)
         go (y ∷ ys) f s u =
             spells-as (sym (append-nil (bitsOf w (low w y))))
@@ -110,12 +114,13 @@ module _ (w : ℕ) (h : 1 ≤ w) (most : w ≤ 25) (xs : List ℤ) (fit : Every 
     unfolding codedAs samples orderOf fixed
     spells-fixed order k o l =
         let rs = fixedResiduals order xs in
-        let small = fixedResiduals-small order xs (every-imp (λ x f. fits-mono (omega arith) f) xs fit) in
+        let small = fixedResiduals-small order xs (fit-in 25 most) in
         spells-as (sym (append-assoc (subframeHead (8 + order)) (plain w (take order xs)) (residualBits k rs)))
         (spells-kind (8 + order) (Fixed order) (omega arith) (kind-of order (omega arith)) (omega arith)
-        (spells-bind _ (spells-by (ap (λ n. many n (sample w)) (sym (length-take-le order xs (omega arith)))) (spells-plain w h (take order xs) (every-take (Fits w) order xs fit)))
+        (spells-bind _
+        (spells-by (ap (λ n. many n (sample w)) (sym (length-take-le order xs (omega arith)))) (spells-plain w h (take order xs) (every-take (Fits w) order xs fit)))
         (spells-last _ (spells-residual k l rs small order (length xs) (omega arith) (length-fixedResiduals order xs))
-        (spells-value (predict-fixedResiduals order xs (every-imp (λ x f. fits-mono (omega arith) f) xs fit)) spells-done))))
+        (spells-value (predict-fixedResiduals order xs (fit-in 32 (omega arith))) spells-done))))
 
     pub spells-subframe : 1 ≤ length xs → Spells before (subframe (length xs) w) (subframeBits w xs) xs
     unfolding subframeBits
