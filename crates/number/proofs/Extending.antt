@@ -1,15 +1,19 @@
--- Sign extension at each width. Assumes nothing.
+-- Sign extension, and the low bits, at each width. Assumes nothing.
 use Prim.Native.Nat.{ℕ, _*_, _%_, _^_, _+_, _≤_, _<_}
-use native.Mathlib.Nat.{mod-eq-of-lt, mod-one}
+use native.Mathlib.Nat.{mod-eq-of-lt, mod-one, one-mul}
 use native.Mathlib.Omega.{arith}
 use mathlib.Core.Path.{_≡_, refl, ap, sym, _∙_}
 use mathlib.Core.Bool.{Bool, true, false, cond}
 use borrow.Author.Tests.{leb-true, leb-false, le-leb, lt-leb}
 use lib.Dec.{leb}
-use lib.IntN.{pos}
+use lib.IntN.{ℤ, pos}
+use lib.Pow.{pow-pos, pow-lt}
+use mir.Syntax.{w64}
+use mir.Val.{SFits, toZ, ofZ}
+use mir.Facts.{toZ-ofZ}
 use Rattle.rfc9639.specs.Integers.{signed, low, wrapped, shiftDown}
-use Rattle.rfc9639.proofs.Widths.{Fits, wrapped-fits}
-use Rattle.number.specs.Extend.{signExtend}
+use Rattle.rfc9639.proofs.Widths.{Fits, wrapped-fits, low-low}
+use Rattle.number.specs.Extend.{signExtend, lowBits}
 use Rattle.number.proofs.Machine.{up-and-down}
 
 module _ (w v : ℕ) where
@@ -48,3 +52,25 @@ extend-none v = extend-low 0 v (omega arith) ∙ ap (signed 0) (mod-one v)
 -- what both shifts leave
 pub extend-shifts : (w k v : ℕ) → w ≤ 63 → w + k ≡ 64 → shiftDown k (signed 64 ((v * 2 ^ k) % 2 ^ 64)) ≡ signExtend w v
 extend-shifts w k v h e = up-and-down w k 64 v e ∙ sym (extend-low w v h)
+
+-- ---- the low bits, of all 64 bits of a number. A signed value is handed on by its bits.
+
+module _ (w : ℕ) {z : ℤ} (f : SFits w64 z) {r : ℕ} (e : r ≡ low 64 (toZ w64 (ofZ w64 z))) where
+  all-of : r ≡ low 64 z
+  all-of = e ∙ ap (low 64) (toZ-ofZ f)
+
+  pub low-bits-all : 64 ≤ w → r ≡ lowBits w z
+  unfolding lowBits
+  low-bits-all h = rw (lt-leb w 63 h) all-of
+
+  module _ (h : w < 64) where
+    -- the divisor, as it is worked out
+    divisor : 1 * 2 ^ w % 2 ^ 64 ≡ 2 ^ w
+    divisor = ap (λ n. n % 2 ^ 64) (one-mul (2 ^ w)) ∙ mod-eq-of-lt (pow-lt h)
+
+    pub divisor-some : 0 < 1 * 2 ^ w % 2 ^ 64
+    divisor-some = rw divisor (pow-pos w)
+
+    pub low-bits-some : r % (1 * 2 ^ w % 2 ^ 64) ≡ lowBits w z
+    unfolding lowBits
+    low-bits-some = rw (divisor, le-leb w 63 (omega arith)) (ap (λ n. n % 2 ^ w) all-of ∙ low-low w 64 (omega arith) z)

@@ -4,7 +4,8 @@ use mathlib.Core.Path.{_≡_, sym, _∙_}
 use lib.IntN.{ℤ, _+ℤ_, _-ℤ_}
 use Rattle.rfc9639.specs.Integers.{wrapped, shiftDown, shiftUp}
 use Rattle.rfc9639.specs.Residual.{unfolded}
-use Rattle.number.specs.Extend.{signExtend}
+use Rattle.rfc9639.specs.Coding.{fold}
+use Rattle.number.specs.Extend.{signExtend, lowBits}
 
 one : {A : Type 0} {x r r′ : A} → r ≡ x → r′ ≡ x → r ≡ r′
 one p q = p ∙ sym q
@@ -32,3 +33,9 @@ shift-down-one x k = one
 
 pub unfold-one : {r r′ : ℤ} (n : ℕ) → r ≡ unfolded n → r′ ≡ unfolded n → r ≡ r′
 unfold-one n = one
+
+pub fold-one : {n n′ : ℕ} (r : ℤ) → n ≡ fold r → n′ ≡ fold r → n ≡ n′
+fold-one r = one
+
+pub low-bits-one : {r r′ : ℕ} (x : ℤ) (width : ℕ) → r ≡ lowBits width x → r′ ≡ lowBits width x → r ≡ r′
+low-bits-one x width = one

@@ -1,10 +1,14 @@
--- Sign extension at every width.
+-- Sign extension, and what it undoes, at every width: a width over 64 is 64.
 use Prim.Native.Nat.{ℕ}
 use lib.Dec.{leb}
 use lib.IntN.{ℤ, pos}
 use Rattle.reading.specs.Reading.{if_then_else_}
-use Rattle.rfc9639.specs.Integers.{wrapped}
+use Rattle.rfc9639.specs.Integers.{low, wrapped}
 
--- the low w bits of v, signed; a width over 64 is 64
+-- the low w bits of v, signed
 unfoldable pub signExtend : ℕ → ℕ → ℤ
 signExtend w v = if leb w 63 then wrapped w (pos v) else wrapped 64 (pos v)
+
+-- the low w bits of z
+unfoldable pub lowBits : ℕ → ℤ → ℕ
+lowBits w z = if leb w 63 then low w z else low 64 z

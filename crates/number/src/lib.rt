@@ -1,10 +1,13 @@
 // Numbers of a width: sign extension, the low bits of a number, shifts, and the residual's folding. Each function
-// answers on every argument, by one definition of RFC 9639's (specs/Integers.antt and specs/Residual.antt of rfc9639).
+// answers on every argument, by one definition of RFC 9639's (specs/Integers.antt, specs/Residual.antt and
+// specs/Coding.antt of rfc9639).
 ghost use mathlib.Core.Path.{_≡_};
 ghost use lib.IntN.{_+ℤ_, _-ℤ_};
-ghost use Rattle.rfc9639.specs.Integers.{signed, wrapped, shiftDown, shiftUp};
+ghost use lib.Signed.{mag};
+ghost use Rattle.rfc9639.specs.Integers.{signed, low, wrapped, shiftDown, shiftUp};
 ghost use Rattle.rfc9639.specs.Residual.{unfolded};
-ghost use Rattle.number.specs.Extend.{signExtend};
+ghost use Rattle.rfc9639.specs.Coding.{fold as foldOf};
+ghost use Rattle.number.specs.Extend.{signExtend, lowBits};
 
 // The same number, wider.
 pub fn widen(x: i32) -> i64
@@ -87,4 +90,47 @@ pub fn unfold(n: u32) -> i32
         return half;
     }
     -1 - half
+}
+
+// How far a number is from zero, or from minus one where it is negative.
+fn magnitude(x: i64) -> u64
+    ensures { λ r. ⌜ r ≡ mag x ⌝ }
+{
+    if 0 <= x {
+        return x as u64;
+    }
+    (-1 - x) as u64
+}
+
+// A residual's folded form (RFC 9639 section 9.2.7.2).
+pub fn fold(r: i64) -> u64
+    ensures { λ n. ⌜ n ≡ foldOf r ⌝ }
+{
+    let m = magnitude(r);
+    if 0 <= r {
+        return m * 2;
+    }
+    m * 2 + 1
+}
+
+// The 64 bits of a number. Both answers are the same bits, so this is no work.
+fn all_bits(x: i64) -> u64
+    ensures { λ r. ⌜ r ≡ low 64 x ⌝ }
+{
+    let m = magnitude(x);
+    if 0 <= x {
+        return m;
+    }
+    u64::MAX - m
+}
+
+// The low `width` bits of x; a width over 64 is 64.
+pub fn low_bits(x: i64, width: u32) -> u64
+    ensures { λ r. ⌜ r ≡ lowBits width x ⌝ }
+{
+    let all = all_bits(x);
+    if width < 64 {
+        return all % (1 << width);
+    }
+    all
 }

@@ -153,6 +153,14 @@ pub inked-none : (bs : List ℕ) (p : Pen) (s : List ℕ) → isPen p ≡ false 
 unfolding inked
 inked-none bs p s e = rw e
 
+pub inked-nothing : (p : Pen) (s : List ℕ) → inked [] p s ≡ record { pen = p; bytes = s }
+unfolding inked ink
+inked-nothing p s = go (isPen p)
+  where
+    go : (b : Bool) → _≡_ {A = State} (cond b (record { pen = p; bytes = s }) (record { pen = p; bytes = s })) (record { pen = p; bytes = s })
+    go true = refl
+    go false = refl
+
 pub inked-length : (bs : List ℕ) (p : Pen) (s : List ℕ) → length (inked bs p s .bytes) ≡ length s
 unfolding inked
 inked-length bs p s = go (isPen p)

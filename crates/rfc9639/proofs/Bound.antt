@@ -28,17 +28,17 @@ use Rattle.rfc9639.proofs.Computing.{computedWrite}
 -- ---- the header
 
 -- n bytes behind the first
-length-followers : (n v : ℕ) → length (followers n v) ≡ n
+pub length-followers : (n v : ℕ) → length (followers n v) ≡ n
 unfolding followers
 length-followers zero v = refl
 length-followers (suc n) v = ap suc (length-followers n v)
 
 -- either of two
-either : {A : Type 0} (P : A → Type 0) (b : Bool) {x y : A} → P x → P y → P (cond b x y)
+pub either : {A : Type 0} (P : A → Type 0) (b : Bool) {x y : A} → P x → P y → P (cond b x y)
 either P true p q = p
 either P false p q = q
 
-number-at-most : (v : ℕ) → length (numberBytes v) ≤ 7
+pub number-at-most : (v : ℕ) → length (numberBytes v) ≤ 7
 unfolding numberBytes followers
 number-at-most v =
     let P : List ℕ → Type 0 = λ l. length l ≤ 7 in
@@ -59,22 +59,24 @@ length-codes : (set : FrameSetting) → length (codeBits set) ≡ 32
 unfolding codeBits bitsOf
 length-codes set = refl
 
-header-at-most : (set : FrameSetting) → length (headerBits set) ≤ 112
-unfolding headerBits fieldBits
-header-at-most set =
+pub length-fields : (set : FrameSetting) → length (fieldBits set) ≡ 32 + 8 * length (numberBytes (set .number)) + length (sizeBits (set .size))
+unfolding fieldBits
+length-fields set =
     let number = bitsOfBytes (numberBytes (set .number)) in
-    let fields = fieldBits set in
     omega (
       arith,
-      length-append fields (bitsOf 8 (crc8 fields)),
-      length-bitsOf 8 (crc8 fields),
       length-append (codeBits set ++ number) (sizeBits (set .size)),
       length-append (codeBits set) number,
       length-codes set,
       length-bits (numberBytes (set .number)),
-      number-at-most (set .number),
-      size-at-most (set .size),
     )
+
+pub length-header : (set : FrameSetting) → length (headerBits set) ≡ length (fieldBits set) + 8
+unfolding headerBits
+length-header set = let fields = fieldBits set in omega (arith, length-append fields (bitsOf 8 (crc8 fields)), length-bitsOf 8 (crc8 fields))
+
+header-at-most : (set : FrameSetting) → length (headerBits set) ≤ 112
+header-at-most set = omega (arith, length-header set, length-fields set, number-at-most (set .number), size-at-most (set .size))
 
 -- ---- the subframes
 

@@ -1,0 +1,79 @@
+-- `better_fixed` meets its contract: what stands before the residuals and the sums of their quotients make the bits of the
+-- definition. Assumes nothing.
+use Prim.Native.Nat.{_+_, _-_, _*_, _^_, _<_}
+use native.Mathlib.Omega.{arith}
+use mathlib.Core.Path.{_≡_, ap, sym, _∙_}
+use mathlib.Core.List.{List}
+use borrow.Author.Needs.{needs}
+use lib.IntN.{ℤ}
+use lib.ListN.{length}
+use Rattle.rfc9639.specs.Coding.{fixedResiduals}
+use Rattle.rfc9639.specs.Write.{stored}
+use Rattle.lanes.proofs.Missing.{length-fixedResiduals}
+use Rattle.choice.proofs.Sizes.{product-small, stored-few}
+use Rattle.choice.proofs.Tallying.{length-sums}
+use Rattle.choice.proofs.Pricing.{offered}
+use Rattle.choice.proofs.better_fixed.Statement.{statement}
+use Rattle.choice.proofs.better_fixed.Tie as tie
+
+stored-len-requires : tie.Need-stored-len-requires
+stored-len-requires c κs = search needs
+
+sub-count : tie.Need-sub-count
+sub-count c = search needs
+
+plain-bits-requires : tie.Need-plain-bits-requires
+plain-bits-requires c κs = search needs
+
+module _ (s : tie.Start) where
+  abbrev xs : List ℤ
+  xs = stored (s .args .n) (s .args .samples .now) (s .args .lane)
+
+  few : length xs < 2 ^ 16
+  few = omega (arith, stored-few (s .args .n) (s .args .samples .now) (s .args .lane), s .fits .n .fits)
+
+module _ (c : tie.After-stored-len) where
+  abbrev s : tie.Start
+  s = c .before
+
+  count-is : c .stored-len .result - s .args .order ≡ length (fixedResiduals (s .args .order) (xs s))
+  count-is = ap (λ m. m - s .args .order) (c .stored-len .ensures) ∙ sym (length-fixedResiduals (s .args .order) (xs s))
+
+  count-few : c .stored-len .result - s .args .order < 2 ^ 16
+  count-few = omega (arith, few s, c .stored-len .ensures)
+
+module _ (c : tie.After-plain-bits) where
+  head-is : c .plain-bits .result + 10 ≡ 18 + s (c .before) .args .order * s (c .before) .args .width
+  head-is = omega (arith, c .plain-bits .ensures)
+
+  head-small : c .plain-bits .result + 10 < 2 ^ 60
+  head-small =
+      omega (arith, product-small {a = s (c .before) .args .order} {b = s (c .before) .args .width} (omega arith) (omega (arith, s (c .before) .fits .width .fits)), head-is)
+
+add-head : tie.Need-add-head
+add-head c = record { fits = omega (arith, head-small c) }
+
+quotient-sums-requires : tie.Need-quotient-sums-requires
+quotient-sums-requires c κs = (count-few (c .before), count-is (c .before))
+
+best-parameter-requires : tie.Need-best-parameter-requires
+best-parameter-requires c κs =
+    let q = c .before in
+    (ap length (q .quotient-sums .ensures .0) ∙ length-sums _, q .quotient-sums .ensures .1, head-small (q .before), count-few (q .before .before))
+
+returns : tie.Need-returns
+returns c =
+    let q = c .before .before in let p = q .before in
+    offered _ _ _ (omega arith) (head-is p) (count-is (p .before)) (q .quotient-sums .ensures .0) (c .best-parameter .ensures)
+
+pub better-fixed-spec : {M : Type 1} → statement M
+better-fixed-spec =
+    tie.close
+    (tie.spec
+    stored-len-requires
+    sub-count
+    plain-bits-requires
+    add-head
+    quotient-sums-requires
+    best-parameter-requires
+    returns)

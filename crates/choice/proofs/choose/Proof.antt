@@ -1,0 +1,61 @@
+-- `choose` meets its contract. The loop's invariant (Judged): the whole answer is the answer from here. Assumes nothing.
+use Prim.Native.Nat.{_-_}
+use native.Mathlib.Omega.{arith}
+use borrow.Author.Needs.{needs}
+use Rattle.rfc9639.specs.Write.{stored}
+use Rattle.choice.proofs.Choosing.{Judged, begin, step, end}
+use Rattle.choice.proofs.choose.Statement.{statement}
+use Rattle.choice.proofs.choose.Tie as tie
+
+abbrev Inv-loop : tie.InvT-loop
+Inv-loop samples n lane width limit best₀ order₀ best order = Judged width (stored n samples lane) best order
+
+abbrev μ-loop : tie.MeasureT-loop
+μ-loop samples n lane width limit best₀ order₀ best order = limit - order
+
+stored-len-requires : tie.Need-stored-len-requires Inv-loop μ-loop
+stored-len-requires c κs = search needs
+
+lesser-requires : tie.Need-lesser-requires Inv-loop μ-loop
+lesser-requires c κs = search needs
+
+plainest-requires : tie.Need-plainest-requires Inv-loop μ-loop
+plainest-requires c κs = search needs
+
+loop-holds : tie.Need-loop-holds Inv-loop μ-loop
+loop-holds c = begin _ _ (c .plainest .ensures)
+
+cast-better-fixed : tie.Need-cast-better-fixed Inv-loop μ-loop
+cast-better-fixed c = search needs
+
+better-fixed-requires : tie.Need-better-fixed-requires Inv-loop μ-loop
+better-fixed-requires c κs = search needs
+
+add-order : tie.Need-add-order Inv-loop μ-loop
+add-order c = search needs
+
+loop-less : tie.Need-loop-less Inv-loop μ-loop
+loop-less c = search needs
+
+loop-again : tie.Need-loop-again Inv-loop μ-loop
+loop-again c = step _ _ (c .before .before .loop .inv) (omega arith) (c .better-fixed .ensures)
+
+returns : tie.Need-returns Inv-loop μ-loop
+returns c = end _ _ (c .before .loop .inv) (omega arith)
+
+pub choose-spec : {M : Type 1} → statement M
+choose-spec =
+    tie.close
+    (tie.spec
+    Inv-loop
+    μ-loop
+    stored-len-requires
+    lesser-requires
+    plainest-requires
+    loop-holds
+    cast-better-fixed
+    better-fixed-requires
+    add-order
+    loop-less
+    loop-again
+    returns)

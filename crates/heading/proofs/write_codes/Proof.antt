@@ -1,0 +1,52 @@
+-- The first three bytes, and three calls behind. Assumes nothing.
+use borrow.Author.Needs.{needs}
+use Rattle.rfc9639.specs.Write.{codeBits}
+use Rattle.heading.specs.Heads.{threeBits}
+use Rattle.heading.proofs.Chaining.{number, first, behind}
+use Rattle.heading.proofs.Heading.{three-binary}
+use Rattle.heading.proofs.write_codes.Statement.{statement}
+use Rattle.heading.proofs.write_codes.Tie as tie
+
+write-three-requires : tie.Need-write-three-requires
+write-three-requires c κs = search needs
+
+cast-write-bits : tie.Need-cast-write-bits
+cast-write-bits c = search needs
+
+write-bits-requires : tie.Need-write-bits-requires
+write-bits-requires c κs = search needs
+
+bits-code-requires : tie.Need-bits-code-requires
+bits-code-requires c κs = search needs
+
+write-bits-requires-2 : tie.Need-write-bits-requires-2
+write-bits-requires-2 c κs = search needs
+
+write-bits-requires-3 : tie.Need-write-bits-requires-3
+write-bits-requires-3 c κs = search needs
+
+same-length : tie.Need-same-length
+same-length c = search needs
+
+returns : tie.Need-returns
+unfolding codeBits threeBits
+returns c =
+    let w4 = c .before .before in
+    let w3 = w4 .before .before .before .before in
+    let w2 = w3 .before .before .before .before .before in
+    let w1 = w2 .before .before .before .before .before in
+    let wrote = first _ _ (three-binary (w1 .before .before .before .args .set)) (w1 .write-three .ensures) in
+    rw (← (w3 .before .bits-code .ensures)) (behind (behind (behind wrote (number 4 _) (w2 .write-bits .ensures)) (number 3 _) (w3 .write-bits2 .ensures)) (number 1 0) (w4 .write-bits3 .ensures) .same)
+
+pub write-codes-spec : {M : Type 1} → statement M
+write-codes-spec =
+    tie.close
+    (tie.spec
+    write-three-requires
+    cast-write-bits
+    write-bits-requires
+    bits-code-requires
+    write-bits-requires-2
+    write-bits-requires-3
+    same-length
+    returns)

@@ -1,0 +1,54 @@
+-- Four calls in a row. Assumes nothing.
+use borrow.Author.Needs.{needs}
+use Rattle.heading.specs.Heads.{threeBits}
+use Rattle.heading.proofs.Chaining.{number, first, behind}
+use Rattle.heading.proofs.write_three.Statement.{statement}
+use Rattle.heading.proofs.write_three.Tie as tie
+
+start-requires : tie.Need-start-requires
+start-requires c κs = search needs
+
+write-bits-requires : tie.Need-write-bits-requires
+write-bits-requires c κs = search needs
+
+cast-write-bits : tie.Need-cast-write-bits
+cast-write-bits c = search needs
+
+write-bits-requires-2 : tie.Need-write-bits-requires-2
+write-bits-requires-2 c κs = search needs
+
+size-code-requires : tie.Need-size-code-requires
+size-code-requires c κs = search needs
+
+write-bits-requires-3 : tie.Need-write-bits-requires-3
+write-bits-requires-3 c κs = search needs
+
+write-bits-requires-4 : tie.Need-write-bits-requires-4
+write-bits-requires-4 c κs = search needs
+
+same-length : tie.Need-same-length
+same-length c = search needs
+
+returns : tie.Need-returns
+unfolding threeBits
+returns c =
+    let w4 = c .before .before in
+    let w3 = w4 .before .before .before .before in
+    let w2 = w3 .before .before .before .before .before in
+    let w1 = w2 .before .before .before .before .before in
+    let wrote = first _ _ (number 15 0x7ffc) (rw (w1 .before .start .ensures) at (w1 .write-bits .ensures)) in
+    rw (← (w3 .before .size-code .ensures)) (behind (behind (behind wrote (number 1 _) (w2 .write-bits2 .ensures)) (number 4 _) (w3 .write-bits3 .ensures)) (number 4 0) (w4 .write-bits4 .ensures) .same)
+
+pub write-three-spec : {M : Type 1} → statement M
+write-three-spec =
+    tie.close
+    (tie.spec
+    start-requires
+    write-bits-requires
+    cast-write-bits
+    write-bits-requires-2
+    size-code-requires
+    write-bits-requires-3
+    write-bits-requires-4
+    same-length
+    returns)

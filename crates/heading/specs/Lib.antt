@@ -1,0 +1,2 @@
+-- What writing a header comes to.
+pub mod Heads

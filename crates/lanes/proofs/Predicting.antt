@@ -1,0 +1,103 @@
+-- A prediction as the code adds it up: one product after the other, exact at 64 bits. A signed value is handed on by its
+-- bits. Assumes nothing.
+use Prim.Native.Nat.{ℕ, suc, _+_, _-_, _*_, _^_, _≤_, _<_}
+use native.Mathlib.Nat.{mul-le-mul, sub-zero}
+use native.Mathlib.Omega.{arith}
+use mathlib.Core.Path.{_≡_, refl, ap, ap₂, sym, _∙_, subst}
+use mathlib.Core.List.{List, [], _∷_, reverse}
+use borrow.Author.Tests.{ne-eqb}
+use lib.IntN.{ℤ, pos, negℤ, natAbs, _+ℤ_, _-ℤ_, _*ℤ_}
+use lib.ListN.{length, getD, take}
+use mir.Syntax.{w64}
+use mir.Val.{SFits, toZ, ofZ}
+use mir.Facts.{toZ-ofZ}
+use Rattle.rfc9639.specs.Prediction.{dot, fixedCoefficients}
+use Rattle.number.proofs.Sizes.{sfits-of-abs, abs-add, abs-mul, abs-neg}
+use Rattle.lanes.specs.Predicted.{predictedAt}
+use Rattle.lanes.proofs.Missing.{latest}
+
+abbrev pub bits64 : ℤ → ℤ
+bits64 z = toZ w64 (ofZ w64 z)
+
+-- ---- one product more
+
+module _ {sum c x : ℤ} (fs : SFits w64 sum) (fc : SFits w64 c) (fx : SFits w64 x) (hs : natAbs sum ≤ 18 * 2 ^ 32) (hc : natAbs c ≤ 6)
+    (hx : natAbs x ≤ 2 ^ 32) where
+  abs-product : natAbs (c *ℤ x) ≤ 6 * 2 ^ 32
+  abs-product = subst (λ n. n ≤ 6 * 2 ^ 32) (sym (abs-mul c x)) (mul-le-mul {n₂ = 6} {m₂ = 2 ^ 32} hc hx)
+
+  abs-sum : natAbs (sum +ℤ c *ℤ x) ≤ natAbs sum + 6 * 2 ^ 32
+  abs-sum = omega (arith, abs-add sum (c *ℤ x), abs-product)
+
+  pub product-fits : SFits w64 (bits64 c *ℤ bits64 x)
+  product-fits = rw (toZ-ofZ fc, toZ-ofZ fx) (sfits-of-abs (c *ℤ x) (omega (arith, abs-product)))
+
+  product : bits64 (bits64 c *ℤ bits64 x) ≡ c *ℤ x
+  product = toZ-ofZ product-fits ∙ ap₂ (λ (a b : ℤ). a *ℤ b) (toZ-ofZ fc) (toZ-ofZ fx)
+
+  pub sum-fits : SFits w64 (bits64 sum +ℤ bits64 (bits64 c *ℤ bits64 x))
+  sum-fits = rw (toZ-ofZ fs, product) (sfits-of-abs (sum +ℤ c *ℤ x) (omega (arith, abs-sum)))
+
+  pub sum-is : {y : ℤ} → x ≡ y
+      → (bits64 (bits64 sum +ℤ bits64 (bits64 c *ℤ bits64 x)) ≡ sum +ℤ c *ℤ y)
+      × (natAbs (bits64 (bits64 sum +ℤ bits64 (bits64 c *ℤ bits64 x))) ≤ natAbs sum + 6 * 2 ^ 32)
+  sum-is d =
+      let e = toZ-ofZ sum-fits ∙ ap₂ (λ (a b : ℤ). a +ℤ b) (toZ-ofZ fs) product in
+      (e ∙ ap (λ (z : ℤ). sum +ℤ c *ℤ z) d, rw e abs-sum)
+
+-- ---- k products of sample i's prediction are added up in acc, and those of the coefficients `rest` are to come
+
+pub record Tapped (cs rest xs : List ℤ) (i k : ℕ) (acc : ℤ) : Type 0 where
+  pub same : dot (pos 0) cs (reverse (take i xs)) ≡ dot acc rest (reverse (take (i - k) xs))
+  pub bound : natAbs acc ≤ k * (6 * 2 ^ 32)
+
+pub begin : (cs xs : List ℤ) (i : ℕ) → Tapped cs cs xs i 0 (pos 0)
+begin cs xs i = record { same = ap (λ n. dot (pos 0) cs (reverse (take n xs))) (sym (sub-zero i)); bound = omega arith }
+
+pub step : {cs rest xs : List ℤ} {c : ℤ} {i k : ℕ} {acc : ℤ} → Tapped cs (c ∷ rest) xs i k acc → k < i → i ≤ length xs → {r : ℤ} → SFits w64 r
+    → (r ≡ acc +ℤ c *ℤ getD xs (i - suc k) (pos 0)) × (natAbs r ≤ natAbs acc + 6 * 2 ^ 32) → Tapped cs rest xs i (suc k) (bits64 r)
+unfolding dot
+step {rest = rest} {xs = xs} {c = c} {i = i} {k = k} {acc = acc} inv h l f e = record {
+  same =
+      inv .same ∙ ap (dot acc (c ∷ rest)) (latest xs i k h l)
+      ∙ ap (λ (a : ℤ). dot a rest (reverse (take (i - suc k) xs))) (sym (e .0) ∙ sym (toZ-ofZ f));
+  bound = rw (toZ-ofZ f) (omega (arith, inv .bound, e .1));
+}
+
+module _ {cs rest xs : List ℤ} {i k : ℕ} {acc : ℤ} (inv : Tapped cs rest xs i k acc) where
+  pub room : k ≤ 3 → natAbs acc ≤ 18 * 2 ^ 32
+  room h = omega (arith, inv .bound)
+
+pub end : {cs xs : List ℤ} {i k : ℕ} {acc : ℤ} → Tapped cs [] xs i k acc → k ≤ 4 → (acc ≡ dot (pos 0) cs (reverse (take i xs))) × (natAbs acc ≤ 24 * 2 ^ 32)
+unfolding dot
+end inv h = (sym (inv .same), omega (arith, inv .bound))
+
+-- ---- the rows of table 20
+
+pub predicted-none : (xs : List ℤ) (i : ℕ) → pos 0 ≡ predictedAt 0 xs i
+unfolding predictedAt fixedCoefficients dot
+predicted-none xs i = refl
+
+-- an order above 4 has the row of 4
+pub predicted-above : {order : ℕ} (xs : List ℤ) (i : ℕ) → (order ≡ 0 → ⊥) → (order ≡ 1 → ⊥) → (order ≡ 2 → ⊥) → (order ≡ 3 → ⊥)
+    → predictedAt 4 xs i ≡ predictedAt order xs i
+unfolding predictedAt fixedCoefficients
+predicted-above xs i a b c d = rw (ne-eqb _ _ a, ne-eqb _ _ b, ne-eqb _ _ c, ne-eqb _ _ d)
+
+-- an answer for one order serves another of the same row
+pub carried : {r a b : ℤ} → SFits w64 r → (r ≡ a) × (natAbs r ≤ 24 * 2 ^ 32) → a ≡ b → (bits64 r ≡ b) × (natAbs (bits64 r) ≤ 24 * 2 ^ 32)
+carried f e d = rw (toZ-ofZ f) (e .0 ∙ d, e .1)
+
+-- ---- a difference of a sample and a prediction
+
+module _ {x y : ℤ} (fx : SFits w64 x) (fy : SFits w64 y) (hx : natAbs x ≤ 2 ^ 32) (hy : natAbs y ≤ 24 * 2 ^ 32) where
+  abs-missed : natAbs (x -ℤ y) < 2 ^ 38
+  abs-missed = omega (arith, abs-add x (negℤ y), abs-neg y)
+
+  pub missed-fits : SFits w64 (bits64 x -ℤ bits64 y)
+  missed-fits = rw (toZ-ofZ fx, toZ-ofZ fy) (sfits-of-abs (x -ℤ y) (omega (arith, abs-missed)))
+
+  pub missed-is : {a b : ℤ} → x ≡ a → y ≡ b → (bits64 (bits64 x -ℤ bits64 y) ≡ a -ℤ b) × (natAbs (bits64 (bits64 x -ℤ bits64 y)) < 2 ^ 38)
+  missed-is p q =
+      let e = toZ-ofZ missed-fits ∙ ap₂ (λ (a b : ℤ). a -ℤ b) (toZ-ofZ fx) (toZ-ofZ fy) in
+      (e ∙ ap₂ (λ (a b : ℤ). a -ℤ b) p q, rw e abs-missed)

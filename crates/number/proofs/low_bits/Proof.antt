@@ -1,0 +1,23 @@
+-- `low_bits` meets its contract, by the width. Assumes nothing.
+use borrow.Author.Needs.{needs}
+use Rattle.number.proofs.Extending.{low-bits-all, divisor-some, low-bits-some}
+use Rattle.number.proofs.low_bits.Statement.{statement}
+use Rattle.number.proofs.low_bits.Tie as tie
+
+all-bits-requires : tie.Need-all-bits-requires
+all-bits-requires c κs = search needs
+
+shl-result : tie.Need-shl-result
+shl-result c = search needs
+
+rem-result : tie.Need-rem-result
+rem-result c = let s = c .before .before in divisor-some (s .args .width) (s .fits .x) (c .before .all-bits .ensures) (c .if1 .taken)
+
+returns : tie.Need-returns
+returns c = let s = c .before .before in low-bits-some (s .args .width) (s .fits .x) (c .before .all-bits .ensures) (c .if1 .taken)
+
+returns-2 : tie.Need-returns-2
+returns-2 c = let s = c .before .before in low-bits-all (s .args .width) (s .fits .x) (c .before .all-bits .ensures) (c .if1 .left)
+
+pub low-bits-spec : {M : Type 1} → statement M
+low-bits-spec = tie.close (tie.spec all-bits-requires shl-result rem-result returns returns-2)

@@ -1,0 +1,94 @@
+-- The settings' tests, and which samples fit. Assumes nothing.
+use Prim.Native.Nat.{ℕ, zero, suc, _+_, _-_, _*_, _^_, _≤_, _<_}
+use native.Mathlib.Nat.{pow-suc, mul-le-mul-right}
+use native.Mathlib.Omega.{arith}
+use mathlib.Core.Path.{_≡_, refl, ap, sym, _∙_}
+use mathlib.Core.Bool.{Bool, true, false, cond, _&&_}
+use mathlib.Core.List.{List, [], _∷_}
+use borrow.Author.Tests.{ltb-true, ltb-false, lt-ltb, le-ltb}
+use lib.Dec.{ltb, eqb}
+use lib.IntN.{ℤ, pos, negsuc}
+use lib.ListN.{length, getD, drop, drop-of-length-le}
+use lib.Seq.{drop-cons}
+use mir.Facts.{toZ-ofZ}
+use mir.Syntax.{w32}
+use mir.Val.{SFits, toZ, ofZ}
+use Rattle.rfc9639.specs.declared.ChannelAssignment.{ChannelAssignment}
+use Rattle.rfc9639.specs.declared.ChannelAssignment.the-variants.{LeftSide, SideRight, MidSide}
+use Rattle.rfc9639.specs.Header.{assignment, channelCount}
+use Rattle.rfc9639.specs.Coding.{fold}
+use Rattle.rfc9639.specs.Write.{fits, allFit}
+
+-- a side channel comes with one other
+pub count-of-pair : (code : ℕ) → 8 ≤ code → channelCount (assignment code) ≡ 2
+unfolding assignment channelCount
+count-of-pair code h = rw (le-ltb _ _ h) (go (eqb code 8) (eqb code 9))
+  where
+    go : (a b : Bool) → channelCount (cond a LeftSide (cond b SideRight MidSide)) ≡ 2
+    go true b = refl
+    go false true = refl
+    go false false = refl
+
+pub count-at-most : (code : ℕ) → code ≤ 10 → channelCount (assignment code) ≤ 8
+unfolding assignment channelCount
+count-at-most code h = go (ltb code 8) refl
+  where
+    go : (b : Bool) → ltb code 8 ≡ b → channelCount (assignment code) ≤ 8
+    go true e = rw e (let l = ltb-true code 8 e in omega arith)
+    go false e = let p = count-of-pair code (ltb-false code 8 e) in omega (arith, p)
+
+-- what is not 0 is above it
+pub some : {n : ℕ} → (n ≡ 0 → ⊥) → ltb 0 n ≡ true
+some {n} h = lt-ltb 0 n (go n h)
+  where
+    go : (n : ℕ) → (n ≡ 0 → ⊥) → 0 < n
+    go zero h = absurd (h refl)
+    go (suc n) h = omega arith
+
+pub none : {n : ℕ} → n ≡ 0 → ltb 0 n ≡ false
+none {n} e = le-ltb 0 n (omega (arith, e))
+
+-- eight channels of 65535 samples at most
+pub product-fits : (a b : ℕ) → a ≤ 8 → b ≤ 65535 → a * b < 2 ^ 64
+product-fits a b h g = omega (arith, mul-le-mul-right b h)
+
+-- ---- what fits w bits is below 2 ^ w once it is folded
+
+same-test : (a b c d : ℕ) → (a < b → c < d) → (b ≤ a → d ≤ c) → ltb a b ≡ ltb c d
+same-test a b c d f g = go (ltb a b) refl
+  where
+    go : (t : Bool) → ltb a b ≡ t → ltb a b ≡ ltb c d
+    go true e = e ∙ sym (lt-ltb c d (f (ltb-true a b e)))
+    go false e = e ∙ sym (le-ltb c d (g (ltb-false a b e)))
+
+pub fits-folded : (w : ℕ) → 1 ≤ w → (x : ℤ) → fits w x ≡ ltb (fold x) (2 ^ w)
+unfolding fits fold
+fits-folded w h x =
+    let double : 2 ^ w ≡ 2 ^ (w - 1) * 2 = ap (λ n. 2 ^ n) (let e : w ≡ suc (w - 1) = omega arith in e) ∙ pow-suc 2 (w - 1) in
+    go x double
+  where
+    go : (x : ℤ) → 2 ^ w ≡ 2 ^ (w - 1) * 2 → fits w x ≡ ltb (fold x) (2 ^ w)
+    go (pos n) d = same-test n (2 ^ (w - 1)) (n * 2) (2 ^ w) (λ l. omega (arith, d)) (λ l. omega (arith, d))
+    go (negsuc n) d = same-test n (2 ^ (w - 1)) (n * 2 + 1) (2 ^ w) (λ l. omega (arith, d)) (λ l. omega (arith, d))
+
+-- ---- all samples, one after the other
+
+module _ (w : ℕ) (xs : List ℤ) (i : ℕ) (same : allFit w (drop i xs) ≡ allFit w xs) where
+  first : i < length xs → (fits w (getD xs i (pos 0)) && allFit w (drop (suc i) xs)) ≡ allFit w xs
+  unfolding allFit
+  first h = sym (ap (allFit w) (drop-cons xs i (pos 0) h)) ∙ same
+
+  -- a sample that is read is its bits
+  tested : SFits w32 (getD xs i (pos 0)) → {t : Bool} → fits w (toZ w32 (ofZ w32 (getD xs i (pos 0)))) ≡ t → t ≡ fits w (getD xs i (pos 0))
+  tested f e = sym e ∙ ap (fits w) (toZ-ofZ f)
+
+  pub fit-fails : i < length xs → SFits w32 (getD xs i (pos 0)) → fits w (toZ w32 (ofZ w32 (getD xs i (pos 0)))) ≡ false → false ≡ allFit w xs
+  fit-fails h f e = ap (λ t. t && allFit w (drop (suc i) xs)) (tested f e) ∙ first h
+
+  pub fit-next : i < length xs → SFits w32 (getD xs i (pos 0)) → fits w (toZ w32 (ofZ w32 (getD xs i (pos 0)))) ≡ true → allFit w (drop (i + 1) xs) ≡ allFit w xs
+  fit-next h f e =
+      ap (λ n. allFit w (drop n xs)) (let g : i + 1 ≡ suc i = omega arith in g) ∙ ap (λ t. t && allFit w (drop (suc i) xs)) (tested f e) ∙ first h
+
+  pub fit-end : length xs ≤ i → true ≡ allFit w xs
+  unfolding allFit
+  fit-end h = ap (allFit w) (sym (drop-of-length-le xs h)) ∙ same

@@ -1,0 +1,88 @@
+-- The end of a frame: where the pen stands, and that all of it is the definition's `footed` and `padded`. Assumes nothing.
+use Prim.Native.Nat.{ℕ, zero, suc, _+_, _-_, _*_, _/_, _%_, _^_, _≤_, _<_}
+use native.Mathlib.Omega.{arith}
+use mathlib.Core.Path.{_≡_, refl, ap, ap₂, sym, _∙_, subst}
+use mathlib.Core.List.{List, [], _∷_, _++_}
+use lib.ListN.{length, take, drop, replicate, length-append, length-take, length-drop, take-append-drop}
+use lib.Seq.{take-at, length-take-le}
+use Rattle.reading.specs.Bytes.{bitsOfBytes}
+use Rattle.reading.specs.Spelling.{bitsOf, bytesOf, spelt}
+use Rattle.reading.proofs.Spelling.{Bits, bits-append, bits-replicate, bitsOf-zero, length-bitsOf, length-bytesOf, bits-of-packed}
+use Rattle.rfc9639.specs.CheckSums.{crc16}
+use Rattle.rfc9639.specs.Frame.{padding}
+use Rattle.rfc9639.specs.Write.{padded, footed}
+use Rattle.rfc9639.proofs.Bound.{length-padded}
+use Rattle.output.specs.declared.Pen.{Pen}
+use Rattle.output.specs.Ink.{State, ink, inked, fresh}
+use Rattle.output.proofs.Inking.{Good, ink-byte, inked-is, inked-length, inked-append, inked-whole, inked-part}
+use Rattle.writer.specs.Footing.{filled, summed}
+
+-- where the pen stands once the byte begun is filled
+at : ℕ → Pen → List ℕ → ℕ
+at k p s = inked (bitsOf k 0) p s .pen .byte
+
+filled-at : (p : Pen) (s : List ℕ) → Good p → p .byte < length s → (h : ℕ) → p .held ≡ h → at ((8 - h) % 8) p s ≤ length s
+unfolding at bitsOf ink
+filled-at p s g l zero e = let b : at ((8 - 0) % 8) p s ≡ p .byte = ap (λ (st : State). st .pen .byte) (inked-is [] p s g) in omega (arith, b)
+filled-at p s g l (suc h) e =
+    let n : ℕ = (8 - suc h) % 8 in
+    let k = length-bitsOf n 0 in
+    let whole = inked-is (bitsOf n 0) p s g ∙ ink-byte (bitsOf n 0) p s l (omega (arith, k, e, g .few)) (omega (arith, k, e, g .few)) in
+    let b : at n p s ≡ p .byte + 1 = ap (λ (st : State). st .pen .byte) whole in
+    omega (arith, b)
+
+-- it stays within the bytes
+pub filled-within : (p : Pen) (s : List ℕ) {q : Pen} {t : List ℕ} → Good p → p .byte < length s → _≡_ {A = State} (record { pen = q; bytes = t }) (filled p s)
+    → q .byte ≤ length t
+unfolding filled at
+filled-within p s {q} {t} g l e =
+    let b : q .byte ≡ filled p s .pen .byte = ap (λ (st : State). st .pen .byte) e in
+    let n : length t ≡ length (filled p s .bytes) = ap (λ (st : State). length (st .bytes)) e in
+    omega (arith, b, n, inked-length (bitsOf ((8 - p .held) % 8) 0) p s, filled-at p s g l (p .held) refl)
+
+-- ---- the definition's words
+
+module _ (bs s : List ℕ) (b : Bits bs) (room : (length bs + 7) / 8 + 2 ≤ length s) where
+  m : ℕ
+  m = length bs / 8
+
+  -- the pen holds what is over whole bytes
+  begun : inked bs fresh s ≡ record { pen = record { byte = m; held = length (drop (8 * m) bs); bits = spelt 0 (drop (8 * m) bs) }; bytes = bytesOf m (take (8 * m) bs) ++ drop m s }
+  unfolding m
+  begun =
+      ap (λ x. inked x fresh s) (sym (take-append-drop (8 * m) bs))
+      ∙ inked-part (take (8 * m) bs) (drop (8 * m) bs) s m (length-take-le (8 * m) bs (omega arith)) (omega (arith, length-drop (8 * m) bs)) (omega arith)
+
+  n : ℕ
+  n = (length bs + 7) / 8
+
+  padded-bits : Bits (padded bs)
+  unfolding padded
+  padded-bits = bits-append bs (replicate (padding (length bs)) 0) b (bits-replicate (padding (length bs)) 0 (omega arith))
+
+  -- the bytes before the sum are the padded bits
+  before : bitsOfBytes (take (inked (padded bs) fresh s .pen .byte) (inked (padded bs) fresh s .bytes)) ≡ padded bs
+  unfolding n
+  before =
+      ap (λ (st : State). bitsOfBytes (take (st .pen .byte) (st .bytes))) (inked-whole (padded bs) s n (length-padded bs) (omega arith))
+      ∙ ap bitsOfBytes (take-at (bytesOf n (padded bs)) (drop n s) n (length-bytesOf n (padded bs))) ∙ bits-of-packed n (padded bs) padded-bits (length-padded bs)
+
+  module _ {p : Pen} {t : List ℕ} (e : _≡_ {A = State} (record { pen = p; bytes = t }) (inked bs fresh s)) where
+    held : p .held ≡ length bs % 8
+    unfolding m
+    held = let h : p .held ≡ length (drop (8 * m) bs) = ap (λ (st : State). st .pen .held) (e ∙ begun) in omega (arith, h, length-drop (8 * m) bs)
+
+    fill : filled p t ≡ inked (padded bs) fresh s
+    unfolding filled padded padding
+    fill =
+        let k : ℕ = (8 - length bs % 8) % 8 in
+        ap (λ (h : ℕ). inked (bitsOf ((8 - h) % 8) 0) p t) held ∙ ap (λ (st : State). inked (bitsOf k 0) (st .pen) (st .bytes)) e
+        ∙ sym (inked-append bs (bitsOf k 0) fresh s b) ∙ ap (λ (z : List ℕ). inked (bs ++ z) fresh s) (bitsOf-zero k)
+
+    -- what was written, filled up and summed, is the definition's
+    pub footed-is : summed (filled p t) ≡ inked (footed (padded bs)) fresh s
+    unfolding summed footed
+    footed-is =
+        ap summed fill
+        ∙ ap (λ (z : List ℕ). inked (bitsOf 16 (crc16 z)) (inked (padded bs) fresh s .pen) (inked (padded bs) fresh s .bytes)) before
+        ∙ sym (inked-append (padded bs) (bitsOf 16 (crc16 (padded bs))) fresh s padded-bits)

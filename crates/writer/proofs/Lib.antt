@@ -1,0 +1,3 @@
+-- Laws for the writer.
+pub mod Allowing
+pub mod Footed

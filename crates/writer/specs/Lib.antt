@@ -1,0 +1,2 @@
+-- What the writer and its parts answer, in the words of the definition.
+pub mod Footing

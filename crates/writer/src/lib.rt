@@ -1,0 +1,4 @@
+// The writer (document 01, "The added writer").
+mod footer;
+mod lane;
+mod settings;
