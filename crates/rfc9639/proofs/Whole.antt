@@ -10,7 +10,7 @@ use lib.ListN.{length, take, length-append}
 use Rattle.reading.specs.Bytes.{bitsOfBytes}
 use Rattle.reading.specs.Spelling.{bitsOf, unary, packed}
 use Rattle.reading.proofs.Bits.{byte-bits}
-use Rattle.reading.proofs.Spelling.{Bits, bits-append, bits-replicate, bits-bitsOf, bits-unary, bits-row, length-bitsOf, length-packed, bits-of-packed}
+use Rattle.reading.proofs.Spelling.{Binary, number, both, bits-replicate, bits-bitsOf, bits-unary, bits-row, length-bitsOf, length-packed, bits-of-packed}
 use Rattle.rfc9639.specs.declared.Candidate.{Candidate}
 use Rattle.rfc9639.specs.declared.Candidate.the-variants.{Constant, Verbatim, Fixed}
 use Rattle.rfc9639.specs.declared.FrameSetting.{FrameSetting}
@@ -22,63 +22,53 @@ use Rattle.rfc9639.specs.Coding.{fold, riceBits, residualBits, fixedResi
 use Rattle.rfc9639.specs.Write.{sizeCode, sizeBits, bitsCode, numberBytes, codeBits, fieldBits, headerBits, lanes, laneWidth, stored, laneBits, subframesBits, padded, footed, frameBits, frameBytes}
 use Rattle.rfc9639.proofs.Bound.{length-padded}
 
--- a list of bits; a record, so that the list is read off
-record AreBits (s : List ℕ) : Type 0 where
-  bits : Bits s
-
-both : {s t : List ℕ} → AreBits s → AreBits t → AreBits (s ++ t)
-both {s} {t} a b = record { bits = bits-append s t (a .bits) (b .bits) }
-
-number : (w v : ℕ) → AreBits (bitsOf w v)
-number w v = record { bits = bits-bitsOf w v }
-
 -- ---- the header
 
-bits-codes : (set : FrameSetting) → AreBits (codeBits set)
+bits-codes : (set : FrameSetting) → Binary (codeBits set)
 unfolding codeBits
 bits-codes set =
     both (both (both (both (both (both (number 15 0x7ffc) (number 1 (set .blocking))) (number 4 (sizeCode (set .size)))) (number 4 0)) (number 4 (set .channels))) (number 3 (bitsCode (set .bits))))
     (number 1 0)
 
-bits-size : (n : ℕ) → AreBits (sizeBits n)
+bits-size : (n : ℕ) → Binary (sizeBits n)
 unfolding sizeBits
 bits-size n = go (eqb (sizeCode n) 6) (eqb (sizeCode n) 7)
   where
-    go : (a b : Bool) → AreBits (cond a (bitsOf 8 (n - 1)) (cond b (bitsOf 16 (n - 1)) []))
+    go : (a b : Bool) → Binary (cond a (bitsOf 8 (n - 1)) (cond b (bitsOf 16 (n - 1)) []))
     go true b = number 8 (n - 1)
     go false true = number 16 (n - 1)
     go false false = record { bits = tt }
 
-bits-header : (set : FrameSetting) → AreBits (headerBits set)
+pub bits-header : (set : FrameSetting) → Binary (headerBits set)
 unfolding headerBits fieldBits
 bits-header set =
     both (both (both (bits-codes set) (record { bits = byte-bits (numberBytes (set .number)) })) (bits-size (set .size))) (number 8 (crc8 (fieldBits set)))
 
 -- ---- the subframes
 
-bits-plain : (w : ℕ) (xs : List ℤ) → AreBits (plain w xs)
+bits-plain : (w : ℕ) (xs : List ℤ) → Binary (plain w xs)
 unfolding plain
 bits-plain w xs = record { bits = bits-row _ xs (λ x. bits-bitsOf w (low w x)) }
 
-bits-rice : (k : ℕ) (r : ℤ) → AreBits (riceBits k r)
+bits-rice : (k : ℕ) (r : ℤ) → Binary (riceBits k r)
 unfolding riceBits
-bits-rice k r = both {s = unary (fold r / 2 ^ k)} (record { bits = bits-unary (fold r / 2 ^ k) }) (number k (fold r))
+bits-rice k r = both {bs = unary (fold r / 2 ^ k)} (record { bits = bits-unary (fold r / 2 ^ k) }) (number k (fold r))
 
-bits-residual : (k : ℕ) (rs : List ℤ) → AreBits (residualBits k rs)
+bits-residual : (k : ℕ) (rs : List ℤ) → Binary (residualBits k rs)
 unfolding residualBits
 bits-residual k rs = both (both (both (number 2 0) (number 4 0)) (number 4 k)) (record { bits = bits-row (riceBits k) rs (λ r. bits-rice k r .bits) })
 
-bits-head : (code : ℕ) → AreBits (subframeHead code)
+bits-head : (code : ℕ) → Binary (subframeHead code)
 unfolding subframeHead
 bits-head code = both (both (number 1 0) (number 6 code)) (number 1 0)
 
-bits-coded : (c : Candidate) (w : ℕ) (xs : List ℤ) → AreBits (codedAs c w xs)
+bits-coded : (c : Candidate) (w : ℕ) (xs : List ℤ) → Binary (codedAs c w xs)
 unfolding codedAs
 bits-coded Constant w xs = both (bits-head 0) (bits-plain w (take 1 xs))
 bits-coded Verbatim w xs = both (bits-head 1) (bits-plain w xs)
 bits-coded (Fixed order k) w xs = both (both (bits-head (8 + order)) (bits-plain w (take order xs))) (bits-residual k (fixedResiduals order xs))
 
-bits-subframes : (set : FrameSetting) (xs : List ℤ) → AreBits (subframesBits set xs)
+pub bits-subframes : (set : FrameSetting) (xs : List ℤ) → Binary (subframesBits set xs)
 unfolding subframesBits laneBits subframeBits
 bits-subframes set xs = record {
   bits =
@@ -89,7 +79,7 @@ bits-subframes set xs = record {
 -- ---- the frame
 
 module _ (set : FrameSetting) (xs : List ℤ) where
-  bits-frame : AreBits (frameBits set xs)
+  bits-frame : Binary (frameBits set xs)
   unfolding frameBits footed padded
   bits-frame =
       let s = headerBits set ++ subframesBits set xs in
