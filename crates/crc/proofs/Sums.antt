@@ -1,18 +1,18 @@
--- The check sums' laws, over the width and the polynomial: the sum of a list joined of two, a sum's bound, and that n bits
--- at once are a look-up of n bits. Assumes nothing.
+-- The check sums' laws, over the width and the polynomial: the sum of a list joined of two, and that n bits at once are a
+-- look-up of n bits. Assumes nothing.
 use Prim.Native.Nat.{ℕ, zero, suc, _+_, _*_, _-_, _/_, _%_, _^_, _≤_, _<_}
 use native.Mathlib.Numerals.{one-add}
 use native.Mathlib.Omega.{arith}
 use native.Mathlib.Nat.{mod-lt, mod-eq-of-lt, add-mod, mul-one, mul-assoc, pow-suc}
 use mathlib.Core.Path.{_≡_, refl, ap, ap₂, sym, _∙_}
-use mathlib.Core.Bool.{Bool, true, false}
 use mathlib.Core.List.{List, [], _∷_, _++_}
 use lib.Bits.{bitXor, xor-lt, xor-mod, xor-shr, xor-self, xor-zero-r}
-use lib.Dec.{eqb, lit<}
+use lib.Dec.{eqb}
 use lib.Pow.{pow-pos, field, shr-shr, shl-shr, shr-lt}
 use Rattle.reading.specs.Reading.{if_then_else_}
 use Rattle.reading.specs.Bytes.{bitsOfByte}
-use Rattle.rfc9639.specs.CheckSums.{crcBit, crcBits, crc8, crc16}
+use Rattle.rfc9639.specs.CheckSums.{crcBit, crcBits}
+use Rattle.rfc9639.proofs.CheckSums.{bit-below}
 use Rattle.crc.proofs.Xor.{xor-sum, xor-bit, xor-twice, xor-four, xor-back}
 
 -- ---- a list joined of two
@@ -21,22 +21,6 @@ pub crc-append : (w poly r : ℕ) (s t : List ℕ) → crcBits w poly r (s ++ t)
 unfolding crcBits
 crc-append w poly r [] t = refl
 crc-append w poly r (b ∷ s) t = crc-append w poly (crcBit w poly r b) s t
-
--- ---- a sum of w bits stays one
-
-module _ (w poly : ℕ) (hp : poly < 2 ^ w) where
-  either : (b : Bool) (a : ℕ) → a < 2 ^ w → (if b then bitXor a poly else a) < 2 ^ w
-  either true a h = xor-lt w a poly h hp
-  either false a h = h
-
-  pub bit-below : (r b : ℕ) → crcBit w poly r b < 2 ^ w
-  unfolding crcBit
-  bit-below r b = either (eqb ((r / 2 ^ (w - 1) + b) % 2) 1) (r * 2 % 2 ^ w) (mod-lt (r * 2) (pow-pos w))
-
-  pub crc-below : (r : ℕ) (s : List ℕ) → r < 2 ^ w → crcBits w poly r s < 2 ^ w
-  unfolding crcBits
-  crc-below r [] h = h
-  crc-below r (b ∷ s) h = crc-below (crcBit w poly r b) s (bit-below r b)
 
 -- ---- one bit more, as a sum
 
@@ -158,13 +142,3 @@ pub crc-byte : (w poly r b : ℕ) → poly < 2 ^ w → 8 ≤ w → r < 2 ^ w
     → crcBits w poly r (bitsOfByte b) ≡ bitXor (crcBits w poly 0 (bitsOfByte (bitXor (r / 2 ^ (w - 8)) b))) (r * 256 % 2 ^ w)
 unfolding bitsOfByte lowBits
 crc-byte w poly r b hp h hr = crc-bits w poly 8 r b hp h hr
-
--- ---- the two sums of the format
-
-pub crc8-below : (s : List ℕ) → crc8 s < 256
-unfolding crc8
-crc8-below s = crc-below 8 0x07 (lit< tt) 0 s (lit< tt)
-
-pub crc16-below : (s : List ℕ) → crc16 s < 65536
-unfolding crc16
-crc16-below s = crc-below 16 0x8005 (lit< tt) 0 s (lit< tt)

@@ -66,7 +66,7 @@ module _ (set : Settings) (s : List ℕ) where
       e
 
   -- what reading a frame comes to
-  frame-result : {f : Frame} {end : Place} → runAt (frame set) s (placeOf 0) ≡ gotAt f end → result set s ≡ record { report = accepted (f .header) end; front = f .samples }
+  pub frame-result : {f : Frame} {end : Place} → runAt (frame set) s (placeOf 0) ≡ gotAt f end → result set s ≡ record { report = accepted (f .header) end; front = f .samples }
   unfolding result resultOf finished
   frame-result e = ap₂ (resultOf s) (had-begun e .1 .1) e
 

@@ -2,21 +2,10 @@
 use Prim.Native.Nat.{ℕ}
 use mathlib.Core.Path.{_≡_}
 use mathlib.Core.List.{List, _++_}
-use Rattle.reading.specs.Spelling.{bitsOf}
-use Rattle.reading.proofs.Spelling.{Bits, bits-append, bits-bitsOf}
+pub use Rattle.reading.proofs.Spelling.{Binary, number, both}
 use Rattle.output.specs.declared.Pen.{Pen}
 use Rattle.output.specs.Ink.{State, inked}
 use Rattle.output.proofs.Inking.{inked-then}
-
--- `Bits`, so that a use shows of which list
-pub record Binary (bs : List ℕ) : Type 0 where
-  pub bits : Bits bs
-
-pub number : (w v : ℕ) → Binary (bitsOf w v)
-number w v = record { bits = bits-bitsOf w v }
-
-pub both : {bs cs : List ℕ} → Binary bs → Binary cs → Binary (bs ++ cs)
-both {bs} {cs} h k = record { bits = bits-append bs cs (h .bits) (k .bits) }
 
 -- from the pen p and the bytes s to q and t by some bits
 pub record Wrote (bs : List ℕ) (p : Pen) (s : List ℕ) (q : Pen) (t : List ℕ) : Type 0 where

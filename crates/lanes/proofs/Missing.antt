@@ -11,14 +11,10 @@ use lib.Seq.{take-add, take-suc, getD-drop}
 use Rattle.rfc9639.specs.Integers.{shiftDown}
 use Rattle.rfc9639.specs.Prediction.{dot, fixedCoefficients}
 use Rattle.rfc9639.specs.Coding.{fold, residuals, fixedResiduals}
+use Rattle.rfc9639.proofs.Lengths.{length-fixedResiduals}
 use Rattle.lanes.specs.Predicted.{predictedAt}
 
 -- ---- the residuals of a row of coefficients
-
-length-residuals : (cs : List ℤ) (shift : ℕ) (before xs : List ℤ) → length (residuals cs shift before xs) ≡ length xs
-unfolding residuals
-length-residuals cs shift before [] = refl
-length-residuals cs shift before (x ∷ xs) = ap suc (length-residuals cs shift (x ∷ before) xs)
 
 residuals-at : (cs : List ℤ) (shift : ℕ) (before xs : List ℤ) (j : ℕ) → j < length xs
     → getD (residuals cs shift before xs) j (pos 0) ≡ getD xs j (pos 0) -ℤ shiftDown shift (dot (pos 0) cs (reverseAux (take j xs) before))
@@ -41,11 +37,6 @@ shift-none : (z : ℤ) → shiftDown 0 z ≡ z
 unfolding shiftDown
 shift-none (pos n) = ap pos (div-one n)
 shift-none (negsuc n) = ap negsuc (div-one n)
-
-pub length-fixedResiduals : (order : ℕ) (xs : List ℤ) → length (fixedResiduals order xs) ≡ length xs - order
-unfolding fixedResiduals
-length-fixedResiduals order xs =
-    length-residuals (fixedCoefficients order) 0 (reverse (take order xs)) (drop order xs) ∙ length-drop order xs
 
 pub fixed-at : (order : ℕ) (xs : List ℤ) (j : ℕ) → order + j < length xs
     → getD (fixedResiduals order xs) j (pos 0) ≡ getD xs (order + j) (pos 0) -ℤ predictedAt order xs (order + j)

@@ -1,11 +1,11 @@
 -- What each lane stores: how many samples, which one at an index, and how large. Assumes nothing.
 use Prim.Native.Nat.{ℕ, zero, suc, _+_, _-_, _*_, _^_, _≤_, _<_, min}
-use native.Mathlib.Nat.{zero-min, min-zero, suc-min-suc, le-of-lt, mul-le-mul}
+use native.Mathlib.Nat.{le-of-lt, mul-le-mul}
 use native.Mathlib.Omega.{arith}
 use mathlib.Core.Path.{_≡_, refl, ap, ap₂, sym, _∙_}
 use mathlib.Core.List.{List, [], _∷_}
 use lib.IntN.{ℤ, pos, natAbs, _+ℤ_}
-use lib.ListN.{length, getD, drop, length-take, length-drop}
+use lib.ListN.{length, getD, drop}
 use lib.Seq.{getD-take, getD-drop}
 use mir.Syntax.{w32, w64}
 use mir.Val.{SFits, toZ, ofZ}
@@ -14,6 +14,7 @@ use Rattle.rfc9639.specs.declared.Lane.{Lane}
 use Rattle.rfc9639.specs.declared.Lane.the-variants.{Channel, Mid, Side}
 use Rattle.rfc9639.specs.Stereo.{pairwise}
 use Rattle.rfc9639.specs.Write.{channel, stored, midOf, sideOf}
+use Rattle.rfc9639.proofs.Lengths.{length-pairwise, length-channel as channel-long}
 use Rattle.rfc9639.proofs.Widths.{Fits, of-sfits, fits-add, fits-sub}
 use Rattle.number.proofs.Sizes.{abs-of-fits, abs-shiftDown}
 
@@ -22,12 +23,6 @@ pub start-lt : (c n : ℕ) → c < 2 ^ 32 → n < 2 ^ 16 → c * n < 2 ^ 64
 start-lt c n h k = omega (arith, mul-le-mul {n₂ = 2 ^ 32} {m₂ = 2 ^ 16} (le-of-lt h) (le-of-lt k))
 
 -- ---- pairs
-
-pub length-pairwise : (f : ℤ → ℤ → ℤ) (xs ys : List ℤ) → length (pairwise f xs ys) ≡ min (length xs) (length ys)
-unfolding pairwise
-length-pairwise f [] ys = sym (zero-min (length ys))
-length-pairwise f (x ∷ xs) [] = sym (min-zero (suc (length xs)))
-length-pairwise f (x ∷ xs) (y ∷ ys) = ap suc (length-pairwise f xs ys) ∙ sym (suc-min-suc (length xs) (length ys))
 
 pub pairwise-at : (f : ℤ → ℤ → ℤ) (xs ys : List ℤ) (i : ℕ) → i < length (pairwise f xs ys)
     → getD (pairwise f xs ys) i (pos 0) ≡ f (getD xs i (pos 0)) (getD ys i (pos 0))
@@ -40,10 +35,6 @@ pairwise-at f (x ∷ xs) (y ∷ ys) (suc i) h = pairwise-at f xs ys i (omega ari
 -- ---- one channel
 
 module _ (n : ℕ) (xs : List ℤ) (c : ℕ) where
-  pub channel-long : length (channel n xs c) ≡ min n (length xs - c * n)
-  unfolding channel
-  channel-long = length-take n (drop (c * n) xs) ∙ ap (min n) (length-drop (c * n) xs)
-
   pub channel-getD : (i : ℕ) → i < n → getD (channel n xs c) i (pos 0) ≡ getD xs (c * n + i) (pos 0)
   unfolding channel
   channel-getD i h = getD-take n (drop (c * n) xs) i (pos 0) h ∙ getD-drop (c * n) xs i (pos 0)

@@ -3,7 +3,7 @@
 use Prim.Native.Nat.{ℕ, zero, suc, _+_, _^_, _<_}
 use mathlib.Core.Path.{_≡_, refl, ap, ap₂, _∙_}
 use mathlib.Core.Bool.{Bool, true, false, cond}
-use mathlib.Core.List.{List, [], _∷_, _++_}
+use mathlib.Core.List.{List, [], _∷_, _++_, map}
 use lib.ListN.{length, take, drop, length-append}
 use Rattle.reading.specs.declared.Place.{Place}
 use Rattle.reading.specs.Reading.{nextBits, nextZeros, Ask, done, stop, ask, seen, _>>=_, bits, zeros, passed, require, many, each, Answer, found, cut, bitsFrom, answer, Got, follow, run}
@@ -79,6 +79,14 @@ pub every-drop : {A : Type 0} (P : A → Type 0) (n : ℕ) (xs : List A) → Eve
 every-drop P zero xs h = h
 every-drop P (suc n) [] h = tt
 every-drop P (suc n) (x ∷ xs) h = every-drop P n xs (h .1)
+
+pub every-imp : {A : Type 0} {P Q : A → Type 0} → ((a : A) → P a → Q a) → (xs : List A) → Every P xs → Every Q xs
+every-imp f [] e = tt
+every-imp f (x ∷ xs) e = (f x (e .0), every-imp f xs (e .1))
+
+pub every-map : {A B : Type 0} (P : B → Type 0) (f : A → B) (xs : List A) → Every (λ x. P (f x)) xs → Every P (map f xs)
+every-map P f [] e = tt
+every-map P f (x ∷ xs) e = (e .0, every-map P f xs (e .1))
 
 pub record Sized {A : Type 0} (n : ℕ) (P : A → Type 0) (xs : List A) : Type 0 where
   pub count : length xs ≡ n

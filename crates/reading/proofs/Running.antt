@@ -22,11 +22,11 @@ pub record In (s : List ℕ) (p : Place) : Type 0 where
   pub bit : p .bit < 8
   pub end : position p ≤ 8 * length s
 
-and-fst : (a b : Bool) → (a && b) ≡ true → a ≡ true
+pub and-fst : (a b : Bool) → (a && b) ≡ true → a ≡ true
 and-fst true b e = refl
 and-fst false b e = e
 
-and-snd : (a b : Bool) → (a && b) ≡ true → b ≡ true
+pub and-snd : (a b : Bool) → (a && b) ≡ true → b ≡ true
 and-snd true b e = e
 and-snd false true e = refl
 and-snd false false e = e
@@ -112,6 +112,11 @@ run-bind (done a) k s i = refl
 run-bind (stop n) k s i = refl
 run-bind (ask q f) k s i = follow-bind (answer q s i) (λ v j. run (f v) s j) (λ v j. run (f v >>= k) s j) _ (λ v j. run-bind (f v) k s j)
 run-bind (seen f) k s i = run-bind (f (take i s)) k s i
+
+-- what a run goes on with
+pub run-bind-got : {A B : Type 0} (p : Ask A) (k : A → Ask B) (s : List ℕ) (i : ℕ) {a : A} {j : ℕ} → run p s i ≡ got a j → run (p >>= k) s i ≡ run (k a) s j
+unfolding bindGot
+run-bind-got p k s i e = run-bind p k s i ∙ ap (λ x. bindGot x (λ a j. run (k a) s j)) e
 
 module _ {A : Type 0} (p : Ask A) (s : List ℕ) (at : Place) where
   got-in : (a : A) (j : ℕ) → In s at → run p (bitsOfBytes s) (position at) ≡ got a j → In s (placeOf j)

@@ -49,6 +49,16 @@ unfolding row
 bits-row f [] h = tt
 bits-row f (x ∷ xs) h = bits-append (f x) (row f xs) (h x) (bits-row f xs h)
 
+-- `Bits`, so that a use shows of which list
+pub record Binary (bs : List ℕ) : Type 0 where
+  pub bits : Bits bs
+
+pub number : (w v : ℕ) → Binary (bitsOf w v)
+number w v = record { bits = bits-bitsOf w v }
+
+pub both : {bs cs : List ℕ} → Binary bs → Binary cs → Binary (bs ++ cs)
+both {bs} {cs} h k = record { bits = bits-append bs cs (h .bits) (k .bits) }
+
 -- ---- a number's bits
 
 pub length-bitsOf : (w v : ℕ) → length (bitsOf w v) ≡ w

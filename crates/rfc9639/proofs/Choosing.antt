@@ -1,7 +1,6 @@
 -- The writer's choice: none of the candidates has fewer bits, and of those with as few the first is taken. Assumes
 -- nothing.
 use Prim.Native.Nat.{ℕ, zero, suc, _+_, _≤_, _<_, min}
-use native.Mathlib.Nat.{zero-add}
 use native.Mathlib.Omega.{arith}
 use mathlib.Core.Path.{_≡_, refl, ap, sym, _∙_, subst}
 use mathlib.Core.Bool.{Bool, true, false, cond}
@@ -10,7 +9,7 @@ use borrow.Author.Tests.{ltb-true, ltb-false}
 use lib.Dec.{ltb}
 use lib.IntN.{ℤ}
 use lib.ListN.{length}
-use Rattle.reading.proofs.Holding.{Every, every-append}
+use Rattle.reading.proofs.Holding.{Every, every-append, every-imp, every-map}
 use Rattle.rfc9639.specs.declared.Candidate.{Candidate}
 use Rattle.rfc9639.specs.declared.Candidate.the-variants.{Constant, Verbatim, Fixed}
 use Rattle.rfc9639.specs.Coding.{uniform, counting, fixedOnes, candidates, fewestOf, fewest, cost, chosen}
@@ -22,10 +21,6 @@ pub record Fewest {A : Type 0} (count : A → ℕ) (c : A) (cs : List A) : Type 
   pub there : cs ≡ before ++ c ∷ after
   pub earlier : Every (λ d. count c < count d) before
   pub later : Every (λ d. count c ≤ count d) after
-
-every-imp : {A : Type 0} {P Q : A → Type 0} → ((a : A) → P a → Q a) → (xs : List A) → Every P xs → Every Q xs
-every-imp f [] e = tt
-every-imp f (x ∷ xs) e = (f x (e .0), every-imp f xs (e .1))
 
 every-at : {A : Type 0} (P : A → Type 0) (xs : List A) (y : A) (ys : List A) → Every P (xs ++ y ∷ ys) → P y
 every-at P [] y ys e = e .0
@@ -104,14 +99,10 @@ module _ (w : ℕ) (xs : List ℤ) where
       go false = fewest-is (cost w xs) Verbatim fixedAll
 
 -- each number of a row is of the row
-counted : (P : ℕ → Type 0) (a n : ℕ) → ((i : ℕ) → i < a + n → P i) → Every P (counting a n)
+pub counted : (P : ℕ → Type 0) (a n : ℕ) → ((i : ℕ) → i < a + n → P i) → Every P (counting a n)
 unfolding counting
 counted P a zero f = tt
 counted P a (suc n) f = (f a (omega arith), counted P (suc a) n (λ i h. f i (omega arith)))
-
-every-map : {A B : Type 0} (P : B → Type 0) (f : A → B) (xs : List A) → Every (λ x. P (f x)) xs → Every P (map f xs)
-every-map P f [] e = tt
-every-map P f (x ∷ xs) e = (e .0, every-map P f xs (e .1))
 
 module _ (xs : List ℤ) where
   fixed-open : (orders : List ℕ) → Every (λ o. o < min 5 (length xs)) orders → Every (Open xs) (fixedOnes orders)

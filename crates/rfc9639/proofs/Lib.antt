@@ -1,5 +1,8 @@
 -- The definition computes: the examples that document 01 marks, published frames, and the order of the checks.
+pub mod CheckSums
 pub mod Widths
+pub mod Magnitudes
+pub mod Lengths
 pub mod Computing
 pub mod Marked
 pub mod Published
@@ -8,3 +11,4 @@ pub mod WrittenCases
 pub mod Choosing
 pub mod Costs
 pub mod Bound
+pub mod Whole

@@ -9,7 +9,7 @@ use lib.IntN.{ℤ}
 use lib.ListN.{length}
 use Rattle.rfc9639.specs.Coding.{fixedResiduals}
 use Rattle.rfc9639.specs.Write.{stored}
-use Rattle.lanes.proofs.Missing.{length-fixedResiduals}
+use Rattle.rfc9639.proofs.Lengths.{length-fixedResiduals}
 use Rattle.choice.proofs.Sizes.{product-small, stored-few}
 use Rattle.choice.proofs.Tallying.{length-sums}
 use Rattle.choice.proofs.Pricing.{offered}

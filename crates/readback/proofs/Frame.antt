@@ -1,0 +1,80 @@
+-- A frame is read back, bit for bit (RFC 9639 section 9). Assumes nothing.
+use Prim.Native.Nat.{ℕ, _≤_}
+use native.Mathlib.Omega.{arith}
+use mathlib.Core.Path.{refl, ap, sym}
+use mathlib.Core.List.{List, [], _++_, append-assoc}
+use borrow.Author.Tests.{lt-ltb, le-leb, eq-eqb}
+use lib.IntN.{ℤ}
+use lib.ListN.{length, replicate}
+use lib.Pow.{pow-pos}
+use Rattle.reading.specs.Reading.{each}
+use Rattle.reading.specs.Spelling.{bitsOf}
+use Rattle.reading.proofs.Holding.{Every}
+use Rattle.reading.proofs.Spelling.{bitsOf-zero}
+use Rattle.rfc9639.specs.declared.FrameSetting.{FrameSetting}
+use Rattle.rfc9639.specs.declared.Lane.{Lane}
+use Rattle.rfc9639.specs.CheckSums.{crc16}
+use Rattle.rfc9639.specs.Header.{assignment, sampleCount}
+use Rattle.rfc9639.specs.Subframe.{subframe}
+use Rattle.rfc9639.specs.Frame.{opening, widths, padding, footer, body, frame}
+use Rattle.rfc9639.specs.Write.{headerBits, lanes, laneWidth, stored, laneBits, subframesBits, padded, footed, frameBits}
+use Rattle.rfc9639.proofs.Widths.{Fits}
+use Rattle.rfc9639.proofs.CheckSums.{crc16-below}
+use Rattle.readback.proofs.Spells.{Spells, flat, spells-as, spells-value, spells-by, spells-bits, spells-passed, spells-done, spells-bind, spells-then, spells-last, spells-require, spells-checked, spells-each}
+use Rattle.readback.proofs.Allowed.{Allowed}
+use Rattle.readback.proofs.Header.{headerOf, spells-header}
+use Rattle.readback.proofs.Subframe.{spells-subframe}
+use Rattle.readback.proofs.Lanes.{Held, widths-lanes, width-within, lanes-held, joined-lanes}
+
+-- what is behind the subframes
+abbrev footerBits : List ℕ → List ℕ
+footerBits before = replicate (padding (length before)) 0 ++ bitsOf 16 (crc16 (padded before))
+
+spells-footer : {before : List ℕ} → Spells before footer (footerBits before) tt
+unfolding footer padded
+spells-footer {before} =
+    spells-then _ spells-passed
+    (spells-bind _ (spells-as (bitsOf-zero (padding (length before))) (spells-bits (padding (length before)) {v = 0} (pow-pos (padding (length before)))))
+    (spells-then _ spells-passed
+    (spells-last _ (spells-bits 16 (crc16-below (padded before))) (spells-require 10 (eq-eqb (crc16 (padded before)) (crc16 (padded before)) refl)))))
+
+module _ (set : FrameSetting) (xs : List ℤ) (ok : Allowed set (length xs)) (fit : Every (Fits (set .bits)) xs) where
+  some : 1 ≤ set .bits
+  some = omega (arith, ok .depth .some)
+
+  -- one lane
+  spells-lane : (lane : Lane) → Held (set .bits) (set .size) xs lane → (before : List ℕ)
+      → Spells before (subframe (set .size) (laneWidth (set .bits) lane)) (laneBits (set .bits) (set .size) xs lane) (stored (set .size) xs lane)
+  unfolding laneBits
+  spells-lane lane held before =
+      let ys = stored (set .size) xs lane in
+      let width = width-within (set .bits) lane in
+      spells-by (ap (λ n. subframe n (laneWidth (set .bits) lane)) (sym (held .count)))
+      (spells-subframe (laneWidth (set .bits) lane) (omega (arith, some, width)) (omega (arith, ok .depth .most, width)) ys (held .fits)
+      (omega (arith, held .count, ok .some)))
+
+  spells-subframes : {before : List ℕ}
+      → Spells before (each (subframe (set .size)) (widths (assignment (set .channels)) (set .bits))) (subframesBits set xs)
+      (flat (stored (set .size) xs) (lanes (assignment (set .channels))))
+  unfolding subframesBits
+  spells-subframes =
+      let a = assignment (set .channels) in
+      spells-by (ap (each (subframe (set .size))) (widths-lanes a (set .bits)))
+      (spells-each (Held (set .bits) (set .size) xs) (laneBits (set .bits) (set .size) xs) (subframe (set .size)) (laneWidth (set .bits)) (stored (set .size) xs) spells-lane (lanes a)
+      (lanes-held (set .size) xs some (ok .depth .most) fit a (ok .samples)))
+
+  spells-body : Spells (headerBits set) (body (headerOf set)) (subframesBits set xs ++ footerBits (headerBits set ++ subframesBits set xs)) xs
+  unfolding body
+  spells-body =
+      spells-bind _ spells-subframes
+      (spells-last _ spells-footer (spells-value (joined-lanes (set .size) xs some (ok .depth .most) fit (assignment (set .channels)) (ok .samples)) spells-done))
+
+  spells-opening : (room : ℕ) → length xs ≤ room → Spells [] (opening (record { room = room })) (headerBits set) (headerOf set)
+  unfolding opening sampleCount
+  spells-opening room h =
+      spells-last _ (spells-header set ok)
+      (spells-checked 8 _ (lt-ltb 0 (set .bits) some) (spells-checked 7 _ (le-leb _ room (omega (arith, ok .samples))) spells-done))
+
+  pub spells-frame : (room : ℕ) → length xs ≤ room → Spells [] (frame (record { room = room })) (frameBits set xs) (record { header = headerOf set; samples = xs })
+  unfolding frame frameBits footed padded
+  spells-frame room h = spells-as (simp append-assoc) (spells-bind _ (spells-opening room h) (spells-last _ spells-body spells-done))

@@ -1,0 +1,14 @@
+-- What is written is read back.
+pub mod Spells
+pub mod Tests
+pub mod Number
+pub mod Allowed
+pub mod Header
+pub mod Samples
+pub mod Prediction
+pub mod Subframe
+pub mod Stereo
+pub mod Pairs
+pub mod Lanes
+pub mod Frame
+pub mod ReadBack

@@ -1,0 +1,2 @@
+-- What a written frame says of its samples.
+pub mod First

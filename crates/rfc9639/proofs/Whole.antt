@@ -1,0 +1,102 @@
+-- What the writer puts down are bits, whole bytes of them, and the frame's bytes have just these bits. Assumes nothing.
+use Prim.Native.Nat.{ℕ, _+_, _-_, _*_, _/_, _^_}
+use native.Mathlib.Omega.{arith}
+use mathlib.Core.Path.{_≡_}
+use mathlib.Core.Bool.{Bool, true, false, cond}
+use mathlib.Core.List.{List, [], _++_}
+use lib.Dec.{eqb}
+use lib.IntN.{ℤ}
+use lib.ListN.{length, take, length-append}
+use Rattle.reading.specs.Bytes.{bitsOfBytes}
+use Rattle.reading.specs.Spelling.{bitsOf, unary, packed}
+use Rattle.reading.proofs.Bits.{byte-bits}
+use Rattle.reading.proofs.Spelling.{Binary, number, both, bits-replicate, bits-bitsOf, bits-unary, bits-row, length-bitsOf, length-packed, bits-of-packed}
+use Rattle.rfc9639.specs.declared.Candidate.{Candidate}
+use Rattle.rfc9639.specs.declared.Candidate.the-variants.{Constant, Verbatim, Fixed}
+use Rattle.rfc9639.specs.declared.FrameSetting.{FrameSetting}
+use Rattle.rfc9639.specs.CheckSums.{crc8, crc16}
+use Rattle.rfc9639.specs.Integers.{low}
+use Rattle.rfc9639.specs.Frame.{padding}
+use Rattle.rfc9639.specs.Header.{assignment}
+use Rattle.rfc9639.specs.Coding.{fold, riceBits, residualBits, fixedResiduals, plain, subframeHead, codedAs, chosen, subframeBits}
+use Rattle.rfc9639.specs.Write.{sizeCode, sizeBits, bitsCode, numberBytes, codeBits, fieldBits, headerBits, lanes, laneWidth, stored, laneBits, subframesBits, padded, footed, frameBits, frameBytes}
+use Rattle.rfc9639.proofs.Bound.{length-padded}
+
+-- ---- the header
+
+bits-codes : (set : FrameSetting) → Binary (codeBits set)
+unfolding codeBits
+bits-codes set =
+    both (both (both (both (both (both (number 15 0x7ffc) (number 1 (set .blocking))) (number 4 (sizeCode (set .size)))) (number 4 0)) (number 4 (set .channels))) (number 3 (bitsCode (set .bits))))
+    (number 1 0)
+
+bits-size : (n : ℕ) → Binary (sizeBits n)
+unfolding sizeBits
+bits-size n = go (eqb (sizeCode n) 6) (eqb (sizeCode n) 7)
+  where
+    go : (a b : Bool) → Binary (cond a (bitsOf 8 (n - 1)) (cond b (bitsOf 16 (n - 1)) []))
+    go true b = number 8 (n - 1)
+    go false true = number 16 (n - 1)
+    go false false = record { bits = tt }
+
+pub bits-header : (set : FrameSetting) → Binary (headerBits set)
+unfolding headerBits fieldBits
+bits-header set =
+    both (both (both (bits-codes set) (record { bits = byte-bits (numberBytes (set .number)) })) (bits-size (set .size))) (number 8 (crc8 (fieldBits set)))
+
+-- ---- the subframes
+
+bits-plain : (w : ℕ) (xs : List ℤ) → Binary (plain w xs)
+unfolding plain
+bits-plain w xs = record { bits = bits-row _ xs (λ x. bits-bitsOf w (low w x)) }
+
+bits-rice : (k : ℕ) (r : ℤ) → Binary (riceBits k r)
+unfolding riceBits
+bits-rice k r = both {bs = unary (fold r / 2 ^ k)} (record { bits = bits-unary (fold r / 2 ^ k) }) (number k (fold r))
+
+bits-residual : (k : ℕ) (rs : List ℤ) → Binary (residualBits k rs)
+unfolding residualBits
+bits-residual k rs = both (both (both (number 2 0) (number 4 0)) (number 4 k)) (record { bits = bits-row (riceBits k) rs (λ r. bits-rice k r .bits) })
+
+bits-head : (code : ℕ) → Binary (subframeHead code)
+unfolding subframeHead
+bits-head code = both (both (number 1 0) (number 6 code)) (number 1 0)
+
+bits-coded : (c : Candidate) (w : ℕ) (xs : List ℤ) → Binary (codedAs c w xs)
+unfolding codedAs
+bits-coded Constant w xs = both (bits-head 0) (bits-plain w (take 1 xs))
+bits-coded Verbatim w xs = both (bits-head 1) (bits-plain w xs)
+bits-coded (Fixed order k) w xs = both (both (bits-head (8 + order)) (bits-plain w (take order xs))) (bits-residual k (fixedResiduals order xs))
+
+pub bits-subframes : (set : FrameSetting) (xs : List ℤ) → Binary (subframesBits set xs)
+unfolding subframesBits laneBits subframeBits
+bits-subframes set xs = record {
+  bits =
+      bits-row _ (lanes (assignment (set .channels)))
+      (λ lane. let w = laneWidth (set .bits) lane in let ys = stored (set .size) xs lane in bits-coded (chosen w ys) w ys .bits);
+}
+
+-- ---- the frame
+
+module _ (set : FrameSetting) (xs : List ℤ) where
+  bits-frame : Binary (frameBits set xs)
+  unfolding frameBits footed padded
+  bits-frame =
+      let s = headerBits set ++ subframesBits set xs in
+      both (both (both (bits-header set) (bits-subframes set xs)) (record { bits = bits-replicate (padding (length s)) 0 (omega arith) })) (number 16 (crc16 (padded s)))
+
+  pub length-frameBits : length (frameBits set xs) ≡ 8 * length (frameBytes set xs)
+  unfolding frameBits frameBytes footed
+  length-frameBits =
+      let s = padded (headerBits set ++ subframesBits set xs) in
+      omega (
+        arith,
+        length-packed (s ++ bitsOf 16 (crc16 s)),
+        length-append s (bitsOf 16 (crc16 s)),
+        length-bitsOf 16 (crc16 s),
+        length-padded (headerBits set ++ subframesBits set xs),
+      )
+
+  pub bits-of-frame : bitsOfBytes (frameBytes set xs) ≡ frameBits set xs
+  unfolding frameBytes packed
+  bits-of-frame = bits-of-packed (length (frameBits set xs) / 8) (frameBits set xs) (bits-frame .bits) (omega (arith, length-frameBits))
