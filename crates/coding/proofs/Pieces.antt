@@ -83,7 +83,7 @@ module _ (c : Candidate) (w : ℕ) (xs : List ℤ) where
   written-none h = rw (lt-leb w 64 h)
 
   module _ (h : w ≤ 64) where
-    written-some : writtenAs c w xs ≡ codedAs c w xs
+    pub written-some : writtenAs c w xs ≡ codedAs c w xs
     unfolding writtenAs
     written-some = rw (le-leb w 64 h)
 

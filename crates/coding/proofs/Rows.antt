@@ -3,28 +3,18 @@
 use Prim.Native.Nat.{ℕ, suc, _+_, _≤_, _<_}
 use native.Mathlib.Numerals.{add-one}
 use mathlib.Core.Path.{_≡_, refl, ap, sym, _∙_}
-use mathlib.Core.Bool.{Bool, true, false, cond}
 use mathlib.Core.List.{List, [], _∷_}
 use lib.ListN.{length, getD, drop, drop-of-length-le}
 use lib.Seq.{drop-cons}
 use Rattle.reading.specs.Spelling.{row}
 use Rattle.reading.proofs.Spelling.{Bits}
 use Rattle.output.specs.declared.Pen.{Pen}
-use Rattle.output.specs.Ink.{State, ink, isPen, inked}
-use Rattle.output.proofs.Inking.{inked-append, inked-length}
+use Rattle.output.specs.Ink.{State, inked}
+use Rattle.output.proofs.Inking.{inked-nothing, inked-append, inked-length}
 
 -- the same bits by another name
 pub inked-as : {bs cs : List ℕ} (p : Pen) (s : List ℕ) {x : State} → bs ≡ cs → x ≡ inked bs p s → x ≡ inked cs p s
 inked-as p s e d = d ∙ ap (λ (l : List ℕ). inked l p s) e
-
--- no bits
-pub inked-nothing : (p : Pen) (s : List ℕ) → inked [] p s ≡ record { pen = p; bytes = s }
-unfolding inked ink
-inked-nothing p s = go (isPen p)
-  where
-    go : (b : Bool) → cond b (ink [] p s) (record { pen = p; bytes = s }) ≡ record { pen = p; bytes = s }
-    go true = refl
-    go false = refl
 
 -- of ys, those from i on are still to be written
 pub record Unwritten {A : Type 0} (f : A → List ℕ) (ys : List A) (p₀ : Pen) (s₀ : List ℕ) (i : ℕ) (p : Pen) (s : List ℕ) : Type 0 where

@@ -20,7 +20,7 @@ use Rattle.rfc9639.proofs.CheckSums.{crc8-below}
 use Rattle.readback.proofs.Tests.{by-test}
 use Rattle.readback.proofs.Spells.{Spells, spells-as, spells-value, spells-by, spells-bits, spells-passed, spells-done, spells-bind, spells-then, spells-last, spells-checked, spells-require}
 use Rattle.readback.proofs.Number.{spells-number}
-use Rattle.readback.proofs.Allowed.{Depth, Allowed}
+use Rattle.rfc9639.proofs.Allowed.{Depth, Allowed}
 
 -- ---- the first four bytes
 

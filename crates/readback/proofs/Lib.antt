@@ -2,7 +2,6 @@
 pub mod Spells
 pub mod Tests
 pub mod Number
-pub mod Allowed
 pub mod Header
 pub mod Samples
 pub mod Prediction

@@ -25,7 +25,7 @@ use Rattle.rfc9639.proofs.Whole.{length-frameBits, bits-of-frame}
 use Rattle.demands.proofs.Answers.{frame-result}
 use Rattle.readback.specs.First.{firstOf}
 use Rattle.readback.proofs.Spells.{Spells}
-use Rattle.readback.proofs.Allowed.{allowed-facts}
+use Rattle.rfc9639.proofs.Allowed.{allowed-facts}
 use Rattle.readback.proofs.Samples.{all-fit-facts}
 use Rattle.readback.proofs.Header.{headerOf}
 use Rattle.readback.proofs.Frame.{spells-frame}

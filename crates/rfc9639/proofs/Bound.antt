@@ -75,7 +75,7 @@ pub length-header : (set : FrameSetting) → length (headerBits set) ≡ length 
 unfolding headerBits
 length-header set = let fields = fieldBits set in omega (arith, length-append fields (bitsOf 8 (crc8 fields)), length-bitsOf 8 (crc8 fields))
 
-header-at-most : (set : FrameSetting) → length (headerBits set) ≤ 112
+pub header-at-most : (set : FrameSetting) → length (headerBits set) ≤ 112
 header-at-most set = omega (arith, length-header set, length-fields set, number-at-most (set .number), size-at-most (set .size))
 
 -- ---- the subframes

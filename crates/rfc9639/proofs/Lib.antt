@@ -8,6 +8,7 @@ pub mod Marked
 pub mod Published
 pub mod Ordered
 pub mod WrittenCases
+pub mod Allowed
 pub mod Choosing
 pub mod Costs
 pub mod Bound

@@ -62,7 +62,7 @@ bits-head : (code : ℕ) → Binary (subframeHead code)
 unfolding subframeHead
 bits-head code = both (both (number 1 0) (number 6 code)) (number 1 0)
 
-bits-coded : (c : Candidate) (w : ℕ) (xs : List ℤ) → Binary (codedAs c w xs)
+pub bits-coded : (c : Candidate) (w : ℕ) (xs : List ℤ) → Binary (codedAs c w xs)
 unfolding codedAs
 bits-coded Constant w xs = both (bits-head 0) (bits-plain w (take 1 xs))
 bits-coded Verbatim w xs = both (bits-head 1) (bits-plain w xs)

@@ -22,7 +22,7 @@ use Rattle.choice.specs.Choices.{choiceOf}
 use Rattle.writer.specs.Plans.{laneChoice}
 use Rattle.writer.proofs.Planning.{counting-last, map-append}
 
-width-at-most : (b : ℕ) (lane : Lane) → laneWidth b lane ≤ b + 1
+pub width-at-most : (b : ℕ) (lane : Lane) → laneWidth b lane ≤ b + 1
 unfolding laneWidth
 width-at-most b (Channel c) = omega arith
 width-at-most b Mid = omega arith

@@ -14,7 +14,7 @@ use Rattle.rfc9639.specs.Write.{padded, footed}
 use Rattle.rfc9639.proofs.Bound.{length-padded}
 use Rattle.output.specs.declared.Pen.{Pen}
 use Rattle.output.specs.Ink.{State, ink, inked, fresh}
-use Rattle.output.proofs.Inking.{Good, ink-byte, inked-is, inked-length, inked-append, inked-whole, inked-part}
+use Rattle.output.proofs.Inking.{Good, fresh-good, ink-good, ink-byte, inked-is, inked-length, inked-append, inked-whole, inked-part}
 use Rattle.writer.specs.Footing.{filled, summed}
 
 -- where the pen stands once the byte begun is filled
@@ -52,6 +52,17 @@ module _ (bs s : List ℕ) (b : Bits bs) (room : (length bs + 7) / 8 + 2 ≤ len
   begun =
       ap (λ x. inked x fresh s) (sym (take-append-drop (8 * m) bs))
       ∙ inked-part (take (8 * m) bs) (drop (8 * m) bs) s m (length-take-le (8 * m) bs (omega arith)) (omega (arith, length-drop (8 * m) bs)) (omega arith)
+
+  -- within the bytes
+  pub pen-good : {p : Pen} {t : List ℕ} → _≡_ {A = State} (record { pen = p; bytes = t }) (inked bs fresh s) → Good p
+  pen-good {p} {t} e = subst Good (sym (ap (λ (st : State). st .pen) (e ∙ inked-is bs fresh s fresh-good))) (ink-good bs fresh s b fresh-good)
+
+  pub pen-within : {p : Pen} {t : List ℕ} → _≡_ {A = State} (record { pen = p; bytes = t }) (inked bs fresh s) → p .byte < length t
+  unfolding m
+  pen-within {p} {t} e =
+      let k : p .byte ≡ m = ap (λ (st : State). st .pen .byte) (e ∙ begun) in
+      let l : length t ≡ length s = ap (λ (st : State). length (st .bytes)) e ∙ inked-length bs fresh s in
+      omega (arith, k, l)
 
   n : ℕ
   n = (length bs + 7) / 8

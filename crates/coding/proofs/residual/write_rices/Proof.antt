@@ -7,7 +7,7 @@ use lib.IntN.{pos}
 use mir.Facts.{toZ-ofZ}
 use Rattle.rfc9639.specs.Coding.{riceBits, fixedResiduals}
 use Rattle.rfc9639.specs.Write.{stored}
-use Rattle.lanes.proofs.Missing.{length-fixedResiduals}
+use Rattle.rfc9639.proofs.Lengths.{length-fixedResiduals}
 use Rattle.coding.proofs.Rows.{Unwritten, begin, step, end}
 use Rattle.coding.proofs.Pieces.{bits-rice}
 use Rattle.coding.proofs.residual.write_rices.Statement.{statement}

@@ -49,7 +49,7 @@ loop-again : tie.Need-loop-again Inv-loop μ-loop
 loop-again c = (step _ _ (c .before .before .before .loop .inv .0) (c .before .before .loop-test .taken) _ (c .before .choose-lane .ensures), counted-more _ _ _ _ (c .before .before .before .loop .inv .1) (c .before .before .before .before .before .pre .1) (c .before .before .before .before .before .pre .2) (c .before .choose-lane .ensures))
 
 returns : tie.Need-returns Inv-loop μ-loop
-returns c = (planned-all _ _ _ _ (c .before .loop .inv .0) (c .loop-test .left) (c .before .before .channel-count .ensures), counted-all _ _ (c .before .loop .inv .1) (at-end _ _ (c .before .loop .inv .0) (c .loop-test .left)) (c .before .before .channel-count .ensures))
+returns c = (planned-all _ _ _ _ (c .before .loop .inv .0) (c .loop-test .left) (c .before .before .channel-count .ensures), counted-all _ _ (c .before .loop .inv .1) (at-end _ _ (c .before .loop .inv .0) (c .loop-test .left)) (c .before .before .channel-count .ensures), omega (arith, c .before .loop .inv .0 .few, c .before .loop .inv .0 .within, c .before .loop .inv .1 .small))
 
 pub plan-of-spec : {M : Type 1} → statement M
 plan-of-spec =

@@ -1,0 +1,60 @@
+-- The whole frame: header, subframes and end, one behind the other. Assumes nothing.
+use Prim.Native.Nat.{ℕ, _+_, _*_, _/_, _^_, _≤_, _<_}
+use native.Mathlib.Omega.{arith}
+use mathlib.Core.Path.{_≡_, refl, ap, ap₂, sym, _∙_}
+use mathlib.Core.List.{List, _++_}
+use lib.IntN.{ℤ}
+use lib.ListN.{length, drop, length-append}
+use Rattle.reading.specs.Spelling.{bytesOf, packed}
+use Rattle.reading.proofs.Spelling.{Bits, Binary, both}
+use Rattle.rfc9639.specs.declared.FrameSetting.{FrameSetting}
+use Rattle.rfc9639.specs.Write.{headerBits, subframesBits, padded, footed, frameBits, frameBytes}
+use Rattle.rfc9639.proofs.Bound.{length-frame}
+use Rattle.rfc9639.proofs.Whole.{bits-header, bits-subframes, length-frameBits}
+use Rattle.output.specs.declared.Pen.{Pen}
+use Rattle.output.specs.Ink.{State, inked, fresh}
+use Rattle.output.proofs.Inking.{Good, inked-then, inked-whole}
+use Rattle.heading.specs.Heads.{headed}
+use Rattle.heading.proofs.Heading.{header-whole, headed-is}
+use Rattle.writer.specs.Footing.{filled, summed}
+use Rattle.writer.proofs.Footed.{pen-good, pen-within, footed-is}
+
+-- how long it is
+pub length-is : (set : FrameSetting) (xs : List ℤ) {bits : ℕ} → bits ≡ length (subframesBits set xs)
+    → length (headerBits set) / 8 + (bits + 7) / 8 + 2 ≡ length (frameBytes set xs)
+length-is set xs {bits} e = omega (arith, e, length-frame set xs, length-append (headerBits set) (subframesBits set xs), header-whole set)
+
+module _ (set : FrameSetting) (xs : List ℤ) (s : List ℕ) (room : length (frameBytes set xs) ≤ length s) where
+  coded : List ℕ
+  coded = headerBits set ++ subframesBits set xs
+
+  coded-bits : Bits coded
+  unfolding coded
+  coded-bits = both (bits-header set) (bits-subframes set xs) .bits
+
+  coded-room : (length coded + 7) / 8 + 2 ≤ length s
+  unfolding coded
+  coded-room = omega (arith, length-frame set xs)
+
+  -- the header and the subframes
+  module _ {h p : Pen} {t u : List ℕ} (e : _≡_ {A = State} (record { pen = h; bytes = t }) (headed set s)) (f : _≡_ {A = State} (record { pen = p; bytes = u }) (inked (subframesBits set xs) h t)) where
+    so-far : _≡_ {A = State} (record { pen = p; bytes = u }) (inked coded fresh s)
+    unfolding coded
+    so-far =
+        inked-then (headerBits set) (subframesBits set xs) fresh s (bits-header set .bits)
+        (e ∙ headed-is set s (omega (arith, length-frame set xs, length-append (headerBits set) (subframesBits set xs)))) f
+
+    pub begun-good : Good p
+    begun-good = pen-good coded s coded-bits coded-room so-far
+
+    pub begun-within : p .byte < length u
+    begun-within = pen-within coded s coded-bits coded-room so-far
+
+    -- and the end
+    pub frame-is : {q : Pen} {v : List ℕ} → _≡_ {A = State} (record { pen = q; bytes = v }) (summed (filled p u)) → v ≡ frameBytes set xs ++ drop (length (frameBytes set xs)) s
+    unfolding coded frameBits frameBytes packed
+    frame-is {q} {v} g =
+        let m = length (frameBytes set xs) in
+        let whole = inked-whole (frameBits set xs) s m (length-frameBits set xs) room in
+        ap (λ (st : State). st .bytes) (g ∙ footed-is coded s coded-bits coded-room so-far ∙ whole)
+        ∙ ap (λ k. bytesOf k (frameBits set xs) ++ drop m s) (let k : m ≡ length (frameBits set xs) / 8 = omega (arith, length-frameBits set xs) in k)
