@@ -6,7 +6,6 @@ use lib.ListN.{length-take, length-drop}
 use lib.Seq.{length-take-le}
 use Rattle.write_probe.proofs.run.Statement.{statement}
 use Rattle.write_probe.proofs.run.Tie as tie
-use Rattle.write_probe.proofs.number_of.Reads as number-of-reads′
 
 shared-slice-read-number-of : tie.Need-shared-slice-read-number-of
 shared-slice-read-number-of c = search needs
