@@ -1,34 +1,14 @@
 -- Any two outcomes that meet a contract are equal: the report tells the answer, and the buffer is the definition's.
 -- Assumes nothing.
-use Prim.Native.Nat.{_≤_}
 use native.Mathlib.Omega.{arith}
 use mathlib.Core.Path.{_≡_, ap, sym, _∙_}
 use mathlib.Core.List.{List}
 use lib.IntN.{ℤ}
-use Rattle.error.specs.declared.Refusal.{Refusal}
-use Rattle.error.specs.declared.Refusal.the-variants.{NothingLeft, CutShort, NotSync, Reserved, BadNumber, HeaderSum, NoRoom, NotDone, BadShape, FrameSum, BadArgument, SampleRange, OutputRoom}
-use Rattle.error.specs.Numbers.{numberOf}
-use Rattle.error.proofs.Outcome.{number-tells}
+use Rattle.error.proofs.Outcome.{number-tells, some-number}
 use Rattle.rfc9639.specs.Read.{Report, refusal, Outcome}
 use Rattle.frame.specs.declared.Accepted.{Accepted}
 use Rattle.frame.specs.declared.Answer.{Answer}
 use Rattle.frame.specs.Reads.{reportOf, Reads}
-
--- a frame's number is 0, and no refusal's
-some-number : (e : Refusal) → 1 ≤ numberOf e
-some-number NothingLeft = omega arith
-some-number CutShort = omega arith
-some-number NotSync = omega arith
-some-number Reserved = omega arith
-some-number BadNumber = omega arith
-some-number HeaderSum = omega arith
-some-number NoRoom = omega arith
-some-number NotDone = omega arith
-some-number BadShape = omega arith
-some-number FrameSum = omega arith
-some-number BadArgument = omega arith
-some-number SampleRange = omega arith
-some-number OutputRoom = omega arith
 
 -- what a report says of a frame
 reported : Report → Accepted

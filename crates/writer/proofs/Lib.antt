@@ -6,3 +6,4 @@ pub mod Counting
 pub mod Laning
 pub mod Framing
 pub mod Answering
+pub mod Outcome
