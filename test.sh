@@ -32,10 +32,23 @@ count() { # adds up the last line of the log, 'N passed, M failed' with a name b
 }
 rt ci 2>&1 | tee "$log"
 count
-for program in runner read_probe; do
-    [ -f "cases/$program.txt" ] || continue
+for program in runner read_probe write_probe; do
     sh cases/run.sh "$program" 2>&1 | tee "$log"
     count
+done
+# The fixed list of claxon's answers, for which no Rust is wanted.
+sh cases/run.sh runner oracle 2>&1 | tee "$log"
+count
+# Side by side with claxon, and the Rust binding, where Rust and claxon's source are at hand: each says so where not.
+for script in 'oracle/run.sh --seconds 90' oracle/written.sh bindings/rust/test.sh; do
+    # shellcheck disable=SC2086
+    if ! sh $script >"$log" 2>&1; then
+        failed=$((failed + 1))
+        echo "test.sh: $script failed"
+    elif ! grep -q skipped "$log"; then
+        passed=$((passed + 1))
+    fi
+    cat "$log"
 done
 echo "$passed passed, $failed failed"
 [ "$failed" -eq 0 ] && [ "$passed" -gt 0 ]

@@ -120,7 +120,7 @@ def differences():
     """The inputs of docs/DIFFERENCES.md, where claxon, the RFC and this reader part."""
     for line in open("../docs/DIFFERENCES.md"):
         cells = [cell.strip() for cell in line.split("|")]
-        if len(cells) > 3 and cells[2].startswith("`"):
+        if len(cells) > 3 and cells[2].startswith("`FF"):
             yield "difference-" + cells[1].replace(" ", "-").replace(",", ""), bytes.fromhex(cells[2].strip("`"))
 
 

@@ -1,3 +1,4 @@
 -- Laws of a block's parts, and one outcome for each function.
 pub mod Blocks
+pub mod Filling
 pub mod Outcome

@@ -3,7 +3,7 @@ use Prim.Native.Nat.{ℕ}
 use mathlib.Core.Path.{_≡_, sym, _∙_}
 use mathlib.Core.List.{List}
 use lib.IntN.{ℤ}
-use lib.ListN.{length}
+use lib.ListN.{length, replicate}
 use Rattle.block.specs.declared.Block.{Block}
 use Rattle.block.specs.declared.Part.{Part}
 use Rattle.block.specs.declared.SampleAt.{SampleAt}
@@ -25,3 +25,6 @@ module _ (samples : List ℤ) (block : Block) where
 
   pub pair-one : {r r′ : PairAt} (index : ℕ) → r ≡ pairOf samples block index → r′ ≡ pairOf samples block index → r ≡ r′
   pair-one index = one
+
+pub fill-one : {r r′ : List ℤ} (out : List ℤ) (x : ℤ) → r ≡ replicate (length out) x → r′ ≡ replicate (length out) x → r ≡ r′
+fill-one out x = one

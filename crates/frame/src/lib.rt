@@ -117,12 +117,12 @@ fn decode_body(s: &[u8], at: Place, h: FrameHeader, out: &mut [i32]) -> Decoded
 {
     let coded = decode_channels(s, at, h, out);
     let Decoded::Done(p) = coded else {
-        subframe::fill(out, CLEARED);
+        block::fill(out, CLEARED);
         return coded;
     };
     let end = read_footer(s, p);
     let Checked::Passed(q) = end else {
-        subframe::fill(out, CLEARED);
+        block::fill(out, CLEARED);
         return Decoded::Refused(checked_refusal(end));
     };
     let c = h.channels;

@@ -72,7 +72,7 @@ pub end : {cs xs : List ℤ} {i k : ℕ} {acc : ℤ} → Tapped cs [] xs i k acc
 unfolding dot
 end inv h = (sym (inv .same), omega (arith, inv .bound))
 
--- ---- the rows of table 20
+-- ---- the coefficients of each order
 
 pub predicted-none : (xs : List ℤ) (i : ℕ) → pos 0 ≡ predictedAt 0 xs i
 unfolding predictedAt fixedCoefficients dot

@@ -26,7 +26,7 @@ restored coefficients shift before (r ∷ rs) =
 unfoldable pub predict : List ℤ → ℕ → List ℤ → List ℤ → List ℤ
 predict coefficients shift warm residual = warm ++ restored coefficients shift (reverse warm) residual
 
--- Section 9.2.5, table 20: the fixed predictors are linear ones with these coefficients and no shift.
+-- Section 9.2.5: the fixed predictors are linear ones with these coefficients and no shift.
 unfoldable pub fixedCoefficients : ℕ → List ℤ
 fixedCoefficients order =
     if eqb order 0 then []

@@ -25,7 +25,7 @@ rice k = do
 unfoldable pub coded : ℕ → ℕ → ℕ → Ask (List ℤ)
 coded method k n = if eqb k (2 ^ (4 + method) - 1) then stop 8 else many n (rice k)
 
--- Section 9.2.7.1: a parameter of 4 bits in method 0 and of 5 in method 1, then the residuals.
+-- Section 9.2.7: a parameter of 4 bits in method 0 and of 5 in method 1, then the residuals.
 unfoldable pub partition : ℕ → ℕ → Ask (List ℤ)
 partition method n = do
   k ← bits (4 + method)

@@ -13,7 +13,7 @@ use Rattle.rfc9639.specs.Integers.{sample, shiftUp}
 use Rattle.rfc9639.specs.Residual.{residual}
 use Rattle.rfc9639.specs.Prediction.{predict, fixedCoefficients}
 
--- Section 9.2.1, table 19.
+-- Section 9.2.1.
 unfoldable pub subframeType : ℕ → Ask SubframeType
 subframeType code =
     if eqb code 0 then done Constant

@@ -4,7 +4,6 @@ use Prim.Native.Nat.{ℕ}
 use mathlib.Core.Path.{_≡_, ap, sym, _∙_}
 use mathlib.Core.List.{List}
 use lib.IntN.{ℤ}
-use lib.ListN.{length, replicate}
 use Rattle.reading.specs.declared.Place.{Place}
 use Rattle.reading.specs.Places.{At}
 use Rattle.error.proofs.Passing.{refused-one, got-not-refused}
@@ -21,6 +20,3 @@ left-one x n (Refused e) (Refused e′) l l′ a b = (ap Refused (refused-one e 
 pub decode-one : (width n : ℕ) (s : List ℕ) (at : Place) (r r′ : Decoded) (l l′ : List ℤ)
     → Left (decodeAt width n s at) n r l → Left (decodeAt width n s at) n r′ l′ → (r ≡ r′) × (l ≡ l′)
 decode-one width n s at r r′ l l′ a b = left-one (decodeAt width n s at) n r r′ l l′ a b
-
-pub fill-one : (l : List ℤ) (x : ℤ) (r r′ : List ℤ) → r ≡ replicate (length l) x → r′ ≡ replicate (length l) x → r ≡ r′
-fill-one l x r r′ e f = e ∙ sym f

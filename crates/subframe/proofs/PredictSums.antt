@@ -144,7 +144,7 @@ module _ (m : ℕ) (cs taps l : List ℤ) (i : ℕ) (few : length cs ≤ m) (is 
       dot-latest taps l m i (omega (arith, size)) h g ∙ ap (λ (t : List ℤ). dot (pos 0) t (reverse (take i l))) is
       ∙ dot-padded (pos 0) (m - length cs) cs (reverse (take i l))
 
--- ---- the rows of table 20
+-- ---- the coefficients of each order
 
 pub fixed-row : (order : ℕ) → order ≤ 4 → (length (fixedCoefficients order) ≡ order) × Small (2 ^ 15) (fixedCoefficients order)
 unfolding fixedCoefficients

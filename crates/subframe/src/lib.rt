@@ -23,7 +23,7 @@ use rfc9639::SubframeType;
 ghost use mathlib.Core.Path.{_≡_};
 ghost use Prim.Native.Nat.{_≤_, _<_};
 ghost use lib.IntN.{pos};
-ghost use lib.ListN.{length, take, replicate};
+ghost use lib.ListN.{length, take};
 ghost use mathlib.Core.List.{map};
 ghost use Rattle.reading.specs.Places.{runAt};
 ghost use Rattle.rfc9639.specs.Subframe.{fixed, lpc, samples, orderOf, lpcBehind, subframeBehind};
@@ -37,17 +37,6 @@ pub enum Decoded {
     Refused(Refusal),
 }
 
-// The same sample everywhere (RFC 9639 section 9.2.3).
-pub fn fill(out: &mut [i32], x: i32)
-    ensures { λ r. ⌜ now (out .exit) ≡ replicate (length (now (out .entry))) x ⌝ }
-{
-    let mut i = 0;
-    while i < out.len() {
-        out[i] = x;
-        i += 1;
-    }
-}
-
 fn decode_constant(s: &[u8], at: Place, width: u32, out: &mut [i32]) -> Decoded
     requires { ⌜ width ≤ 32 ⌝ }
     ensures { λ r. ⌜ means r (now (out .exit)) ≡ runAt (samples SubframeType.Constant width (length (now (out .entry)))) (now (s .entry)) at ⌝ }
@@ -56,7 +45,7 @@ fn decode_constant(s: &[u8], at: Place, width: u32, out: &mut [i32]) -> Decoded
     let Sample::Value(x, p) = read else {
         return Decoded::Refused(Refusal::CutShort);
     };
-    fill(out, x);
+    block::fill(out, x);
     Decoded::Done(p)
 }
 
@@ -192,7 +181,7 @@ pub fn decode(s: &[u8], at: Place, width: u32, out: &mut [i32]) -> Decoded
 {
     let decoded = decode_subframe(s, at, width, out);
     let Decoded::Done(p) = decoded else {
-        fill(out, 0);
+        block::fill(out, 0);
         return decoded;
     };
     Decoded::Done(p)

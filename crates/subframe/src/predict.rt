@@ -112,7 +112,7 @@ pub fn predict_lpc(coefficients: &[i32], shift: u32, out: &mut [i32])
     }
 }
 
-// RFC 9639 section 9.2.5, table 20, with zeros behind each row.
+// The coefficients of RFC 9639 section 9.2.5, with zeros behind each row.
 fn fixed_coefficients(order: usize) -> [i32; 4]
     requires { ⌜ order ≤ 4 ⌝ }
     ensures { λ r. ⌜ take order r ≡ fixedCoefficients order ⌝ }

@@ -102,7 +102,7 @@ fn decode_rice(s: &[u8], at: Place, k: u32, out: &mut [i32]) -> Decoded
     Decoded::Done(p)
 }
 
-// A partition (RFC 9639 section 9.2.7.1). Its last parameter, residuals stored as they are, is not done.
+// A partition (RFC 9639 section 9.2.7). Its last parameter, residuals stored as they are, is not done.
 fn decode_partition(s: &[u8], at: Place, method: u32, out: &mut [i32]) -> Decoded
     requires { ⌜ method < 2 ⌝ }
     ensures { λ r. ⌜ means r (now (out .exit)) ≡ runAt (partition method (length (now (out .entry)))) (now (s .entry)) at ⌝ }

@@ -1,4 +1,4 @@
--- Each number becomes x, in its turn (Mapped). Assumes nothing.
+-- Each number becomes x, in its turn (Filled). Assumes nothing.
 use Prim.Native.Nat.{_-_}
 use native.Mathlib.Omega.{arith}
 use mathlib.Core.Path.{refl, ap, _∙_}
@@ -7,14 +7,12 @@ use lib.ListN.{length, replicate}
 use mir.Syntax.{w32}
 use mir.Val.{toZ}
 use mir.Facts.{toZ-ofZ}
-use Rattle.subframe.proofs.Channels.{Mapped, begin, step, end, map-constant}
-use Rattle.subframe.proofs.fill.Statement.{statement}
-use Rattle.subframe.proofs.fill.Tie as tie
-use Rattle.subframe.proofs.fill.Reads as reads
-use Rattle.subframe.proofs.fill.Lts as lts
+use Rattle.block.proofs.Filling.{Filled, begin, step, end}
+use Rattle.block.proofs.fill.Statement.{statement}
+use Rattle.block.proofs.fill.Tie as tie
 
 abbrev Inv-loop : tie.InvT-loop
-Inv-loop out₀ x i₀ out i = Mapped (λ _. toZ w32 x) out₀ out i
+Inv-loop out₀ x i₀ out i = Filled (toZ w32 x) (length out₀) out i
 
 abbrev μ-loop : tie.MeasureT-loop
 μ-loop out₀ x i₀ out i = length out₀ - i
@@ -35,15 +33,13 @@ loop-less : tie.Need-loop-less Inv-loop μ-loop
 loop-less c = search needs
 
 loop-again : tie.Need-loop-again Inv-loop μ-loop
-loop-again c = step (c .before .loop .inv) _ (omega arith) refl
+loop-again c = step (c .before .loop .inv) (omega arith) _ refl
 
 same-length : tie.Need-same-length Inv-loop μ-loop
 same-length c = search needs
 
 returns : tie.Need-returns Inv-loop μ-loop
-returns c =
-    let st = c .before .before in
-    end (c .before .loop .inv) (omega arith) ∙ map-constant _ (st .args .out .now) ∙ ap (replicate (length (st .args .out .now))) (toZ-ofZ (st .fits .x))
+returns c = end (c .before .loop .inv) (omega arith) ∙ ap (replicate (length (c .before .before .args .out .now))) (toZ-ofZ (c .before .before .fits .x))
 
 pub fill-spec : {M : Type 1} → statement M
 fill-spec =
