@@ -6,6 +6,7 @@ mod stereo;
 
 use answers::Checked;
 use answers::checked_refusal;
+use answers::header_refusal;
 use error::Refusal;
 use footer::read_footer;
 use header::HeaderRead;
@@ -170,7 +171,7 @@ pub fn read_frame(s: &[u8], samples: &mut [i32]) -> Answer
     }
     let read = header::read_header(s);
     let HeaderRead::Header(h, p) = read else {
-        return Answer::Refused(header::header_refusal(read));
+        return Answer::Refused(header_refusal(read));
     };
     read_behind(s, p, h, samples)
 }

@@ -3,12 +3,11 @@ use mathlib.Core.Path.{_≡_, ap, sym, _∙_}
 use mathlib.Core.List.{List}
 use Prim.Native.Nat.{ℕ}
 use Rattle.reading.specs.Places.{runAt, placeOf}
-use Rattle.error.specs.declared.Refusal.{Refusal}
 use Rattle.error.proofs.Passing.{refused-one, got-not-refused}
 use Rattle.rfc9639.specs.Header.{header}
 use Rattle.header.specs.declared.HeaderRead.{HeaderRead}
 use Rattle.header.specs.declared.HeaderRead.the-variants.{Header, Refused}
-use Rattle.header.specs.Answers.{headed, headedRefusal}
+use Rattle.header.specs.Answers.{headed}
 
 headed-one : (r r′ : HeaderRead) → headed r ≡ headed r′ → r ≡ r′
 headed-one (Header h p) (Header h′ p′) e = let a : h ≡ h′ = cc in let b : p ≡ p′ = cc in cc
@@ -18,6 +17,3 @@ headed-one (Refused x) (Refused y) e = ap Refused (refused-one x y e)
 
 pub read-header-one : (s : List ℕ) (r r′ : HeaderRead) → headed r ≡ runAt header s (placeOf 0) → headed r′ ≡ runAt header s (placeOf 0) → r ≡ r′
 read-header-one s r r′ e f = headed-one r r′ (e ∙ sym f)
-
-pub header-refusal-one : {r r′ : Refusal} (a : HeaderRead) → r ≡ headedRefusal a → r′ ≡ headedRefusal a → r ≡ r′
-header-refusal-one a p q = p ∙ sym q

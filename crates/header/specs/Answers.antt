@@ -74,7 +74,3 @@ timedRefusal (Time.Refused e) = e
 abbrev pub checkedRefusal : Checked → Refusal
 checkedRefusal (Checked.Passed p) = Refusal.CutShort
 checkedRefusal (Checked.Refused e) = e
-
-abbrev pub headedRefusal : HeaderRead → Refusal
-headedRefusal (HeaderRead.Header h p) = Refusal.CutShort
-headedRefusal (HeaderRead.Refused e) = e

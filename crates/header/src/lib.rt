@@ -29,7 +29,7 @@ ghost use Prim.Native.Nat.{_≤_, _<_};
 ghost use Rattle.reading.specs.Reading.{bits};
 ghost use Rattle.reading.specs.Places.{runAt, placeOf};
 ghost use Rattle.rfc9639.specs.Header.{assignment, bitDepth, blockSize, rateBits, sync, sizeAndRate, channelsAndBits, depthAndZero, codes, blockTime, headerSum, headerBehind, header};
-ghost use Rattle.header.specs.Answers.{fielded, thirdly, depthTree, fourthly, coded, timed, checked, headed, headedRefusal};
+ghost use Rattle.header.specs.Answers.{fielded, thirdly, depthTree, fourthly, coded, timed, checked, headed};
 
 // A header and the place behind it, or why there is none.
 pub enum HeaderRead {
@@ -317,14 +317,4 @@ pub fn read_header(s: &[u8]) -> HeaderRead
         return HeaderRead::Refused(codes_refusal(read));
     };
     read_header_behind(s, p, c)
-}
-
-// The refusal of an answer that has one, for an `else` that has no name for it. Of a header, "cut short".
-pub fn header_refusal(a: HeaderRead) -> Refusal
-    ensures { λ r. ⌜ r ≡ headedRefusal a ⌝ }
-{
-    match a {
-        HeaderRead::Header(_, _) => Refusal::CutShort,
-        HeaderRead::Refused(e) => e,
-    }
 }

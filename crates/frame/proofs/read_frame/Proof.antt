@@ -1,7 +1,8 @@
 -- The whole: nothing left, no header, or what is behind the header. Assumes nothing.
 use mathlib.Core.Path.{refl, sym}
 use borrow.Author.Needs.{needs}
-use Rattle.header.specs.Answers.{headed, headedRefusal}
+use Rattle.header.specs.Answers.{headed}
+use Rattle.frame.specs.Answers.{headedRefusal}
 use Rattle.header.proofs.Heading.{header-got}
 use Rattle.header.proofs.Stepping.{passed-on}
 use Rattle.frame.proofs.Answering.{nothing-left, header-stops}
