@@ -32,33 +32,34 @@ command -v rustc >/dev/null 2>&1 || skip "there is no rustc on the PATH"
 # The archive: the one that THRIFTACORN_LIB names, else the repository's, made again where a source is newer.
 library=${THRIFTACORN_LIB:-}
 if [ -z "$library" ]; then
-    [ "$(uname -m)" = x86_64 ] || skip "the archive is for x86-64 (oracle/README.md says what to do on Arm)"
-    library=$root/target/staticlib
-    archive=$library/libthriftacorn.a
-    newer=$archive
-    [ -f "$archive" ] && newer=$(find "$root/crates" "$root/crates.txt" -type f -newer "$archive" | head -n 1)
+    case $(uname -m) in
+    x86_64) library=$root/target/staticlib make='rt staticlib thriftacorn' ;;
+    *) library=$root/target/native make='sh oracle/native.sh' ;;
+    esac
+    newer=none
+    [ -f "$library/libthriftacorn.a" ] &&
+        newer=$(find "$root/crates" "$root/crates.txt" -type f -newer "$library/libthriftacorn.a" | head -n 1)
     if [ -n "$newer" ]; then
-        command -v rt >/dev/null 2>&1 || skip "there is no $archive, and no 'rt' to make it"
+        command -v rt >/dev/null 2>&1 || skip "$library has no libthriftacorn.a that is new, and there is no 'rt' to make it"
         echo "$name: proving and building the library (some minutes on a fresh clone)" >&2
         mkdir -p "$out" || exit 2
-        (cd "$root" && rt staticlib thriftacorn) >"$out/staticlib.log" 2>&1 || {
-            tail -n 5 "$out/staticlib.log" >&2
+        (cd "$root" && $make) >"$out/library.log" 2>&1 || {
+            tail -n 5 "$out/library.log" >&2
             exit 1
         }
     fi
 fi
 mkdir -p "$out" || exit 2
 
-build() { # PROGRAM SOURCE: the program over claxon and the binding
-    rust 2015 --crate-type rlib --crate-name claxon --cap-lints allow --out-dir "$out" "$claxon/src/lib.rs" &&
-        rust 2021 --crate-type rlib --crate-name thriftacorn -L "native=$library" --out-dir "$out" \
-            "$root/bindings/rust/src/lib.rs" &&
-        rust 2021 --crate-name "$1" --extern "claxon=$out/libclaxon.rlib" \
-            --extern "thriftacorn=$out/libthriftacorn.rlib" -o "$out/$1" "$2"
+build() { # PROGRAM SOURCE: the program over claxon, the binding and what the programs share
+    rust 2015 --crate-type rlib --crate-name claxon --cap-lints allow "$claxon/src/lib.rs" &&
+        rust 2021 --crate-type rlib --crate-name thriftacorn -L "native=$library" "$root/bindings/rust/src/lib.rs" &&
+        rust 2021 --crate-type rlib --crate-name common --extern claxon --extern thriftacorn "$root/oracle/common/lib.rs" &&
+        rust 2021 --crate-name "$1" --extern claxon --extern thriftacorn --extern common "$2"
 }
 
 rust() { # EDITION WORDS: in one unit, which makes claxon fastest
     edition=$1
     shift
-    rustc --edition "$edition" -C opt-level=3 -C codegen-units=1 "$@"
+    rustc --edition "$edition" -C opt-level=3 -C codegen-units=1 -L "$out" --out-dir "$out" "$@"
 }

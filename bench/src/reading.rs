@@ -1,17 +1,9 @@
 //! Reading, timed against claxon on the same bytes in one process. Prints tables for docs/SPEED.md.
-#[path = "../../oracle/src/draw.rs"]
-#[allow(dead_code)]
-mod draw;
-#[path = "../../oracle/src/flac.rs"]
-#[allow(dead_code)]
-mod flac;
-#[path = "../../oracle/src/signal.rs"]
-#[allow(dead_code)]
-mod signal;
 
 use claxon::frame::FrameReader;
-use draw::Draw;
-use signal::{interleaved, Kind};
+use common::draw::Draw;
+use common::flac;
+use common::signal::{interleaved, Kind};
 use std::hint::black_box;
 use std::io::Cursor;
 use std::path::Path;

@@ -1,16 +1,9 @@
-//! Writing: how fast it is, and how long its frames are beside those of the program `flac`. Prints a table for docs/SPEED.md.
-#[path = "../../oracle/src/draw.rs"]
-#[allow(dead_code)]
-mod draw;
-#[path = "../../oracle/src/flac.rs"]
-#[allow(dead_code)]
-mod flac;
-#[path = "../../oracle/src/signal.rs"]
-#[allow(dead_code)]
-mod signal;
+//! Writing: how fast it is, and how long its frames are beside those of the program `flac`. Prints a table for
+//! docs/SPEED.md.
 
-use draw::Draw;
-use signal::{interleaved, Kind};
+use common::draw::Draw;
+use common::flac;
+use common::signal::{interleaved, Kind};
 use std::path::Path;
 use std::time::{Duration, Instant};
 use thriftacorn::{write_frame, Blocking, Settings};

@@ -1,9 +1,9 @@
 //! The families of drawn inputs. Each unit draws a frame or a few, and has the judge read what it makes of them.
-use crate::draw::Draw;
 use crate::fault::FAULTS;
 use crate::frame::{mend, write_frame, Sizes, Taste, Written};
 use crate::judge::Judge;
 use crate::pen::{crc8, Pen};
+use common::draw::Draw;
 
 pub struct Family {
     pub name: &'static str,
@@ -102,7 +102,7 @@ fn flips_mended(judge: &mut Judge, family: usize, draw: &mut Draw, pen: &mut Pen
     }
 }
 
-/// Changes a few bits of a frame, more often behind its header, and at times its length, and makes its sums right again.
+/// Changes a few bits of a frame, mostly behind its header, at times its length too, and makes its sums right again.
 pub fn damage(draw: &mut Draw, frame: &mut Vec<u8>, header: usize) {
     let end = frame.len() - 2;
     let from = if draw.once_in(3) { 0 } else { header };

@@ -1,10 +1,10 @@
 //! Whole frames, freely drawn, with the check sums right.
-use crate::draw::Draw;
 use crate::fault::Fault::{self, *};
 use crate::header::Header;
 pub use crate::header::Sizes;
 use crate::pen::{crc16, crc8, Pen};
 use crate::subframe::Subframe;
+use common::draw::Draw;
 
 /// What kind of frame is wanted.
 #[derive(Clone, Copy)]

@@ -1,8 +1,8 @@
 //! Frame headers, freely drawn: every size, rate and number form, and each field wrong where that is asked for.
 use crate::cover::Field;
-use crate::draw::Draw;
 use crate::fault::Fault::{self, *};
 use crate::pen::{crc8, Pen};
+use common::draw::Draw;
 
 /// How large the blocks are.
 #[derive(Clone, Copy, Debug, PartialEq, Eq)]

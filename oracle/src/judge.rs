@@ -1,6 +1,6 @@
 //! Holds the two readers' answers to each other, input by input, and counts.
-use crate::readers::{Answer, Claxon, Ours, ROOM};
 use crate::sample::Sample;
+use common::readers::{Answer, Claxon, Ours, ROOM};
 
 /// The entries of docs/DIFFERENCES.md at which the two answers part. At its other entries both part from the RFC alone.
 pub const LISTED: [&str; 4] = ["one byte of input", "bits code 7, 32 bits", "number starting with FF", "room"];

@@ -1,23 +1,20 @@
-//! The oracle: claxon 0.4.3 and this repository's reader on the same inputs, in one process. It ends with status 1 at the
-//! first difference that docs/DIFFERENCES.md does not list, and prints that input.
+//! The oracle: claxon 0.4.3 and this repository's reader on the same inputs, in one process. It ends with status 1 at
+//! the first difference that docs/DIFFERENCES.md does not list, and prints that input.
 mod cover;
-mod draw;
 mod families;
 mod fault;
-mod flac;
 mod frame;
 mod header;
 mod judge;
 mod material;
 mod pen;
 mod program;
-mod readers;
 mod sample;
 mod short;
-mod signal;
 mod subframe;
 
-use draw::Draw;
+use common::draw::Draw;
+use common::flac;
 use families::FAMILIES;
 use judge::{Judge, LISTED};
 use pen::Pen;
@@ -66,7 +63,7 @@ fn wish() -> Wish {
         }
     }
     if wish.inputs == u64::MAX && wish.time == Duration::MAX {
-        wish.inputs = 1_000_000;
+        wish.inputs = 5_000_000;
     }
     wish
 }
@@ -78,16 +75,19 @@ fn usage(word: &str) -> ! {
     std::process::exit(2)
 }
 
-/// Rounds of all drawn families until the wish is met.
+/// Rounds of all drawn families until the wish is met, at least one.
 fn rounds(judge: &mut Judge, wish: &Wish, start: Instant) {
     let mut streams: Vec<Draw> = FAMILIES.iter().map(|family| Draw::new(wish.seed, family.name)).collect();
     let mut pen = Pen::default();
-    while judge.total < wish.inputs && start.elapsed() < wish.time {
+    loop {
         for (family, draw) in FAMILIES.iter().zip(&mut streams) {
             let index = judge.family(family.name);
             for _ in 0..family.units {
                 (family.unit)(judge, index, draw, &mut pen);
             }
+        }
+        if judge.total >= wish.inputs || start.elapsed() >= wish.time {
+            break;
         }
     }
     pen.cover.print();

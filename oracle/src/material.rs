@@ -1,11 +1,11 @@
 //! Streams that the program `flac` encodes, whole and damaged.
-use crate::draw::Draw;
 use crate::families::damage;
-use crate::flac::{encode, frames_of};
 use crate::frame::header_length;
 use crate::judge::Judge;
-use crate::readers::ROOM;
-use crate::signal::{interleaved, Kind};
+use common::draw::Draw;
+use common::flac::{encode, frames_of};
+use common::readers::ROOM;
+use common::signal::{interleaved, Kind};
 use std::path::Path;
 use thriftacorn::Frames;
 

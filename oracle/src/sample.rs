@@ -1,5 +1,5 @@
 //! Inputs kept from every family for other uses: the program `runner`, and the list of stored cases.
-use crate::readers::{Answer, Claxon};
+use common::readers::{Answer, Claxon};
 use thriftacorn::{read_frame, Refusal};
 
 /// What the program `runner` reads of its input, and the samples that it has room for.
@@ -13,8 +13,8 @@ pub struct Kept {
     pub output: Vec<u8>,
 }
 
-/// Keeps at most `quota` inputs of each refusal in each family and four times as many frames, none longer than `longest`, nor
-/// with a longer output than `widest`.
+/// Keeps at most `quota` inputs of each refusal in each family and four times as many frames, none longer than
+/// `longest`, nor with a longer output than `widest`.
 pub struct Sample {
     pub quota: u64,
     pub longest: usize,

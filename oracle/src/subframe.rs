@@ -1,9 +1,9 @@
 //! Subframes, freely drawn: any legal one, and each field wrong where that is asked for. The samples are whatever the
 //! bits come to.
 use crate::cover::Field;
-use crate::draw::Draw;
 use crate::fault::Fault::{self, *};
 use crate::pen::Pen;
+use common::draw::Draw;
 
 /// One channel's subframe that is being written.
 pub struct Subframe<'a> {

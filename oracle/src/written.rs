@@ -1,25 +1,18 @@
-//! Frames written by this repository's writer, read by claxon and, wrapped into a stream, by the program `flac`: the samples
-//! must come back. It ends with status 1 where they do not.
-// Each of these has parts that only the oracle uses.
-#[allow(dead_code)]
-mod draw;
-#[allow(dead_code)]
-mod flac;
-#[allow(dead_code)]
-mod readers;
-#[allow(dead_code)]
-mod signal;
-
-use draw::Draw;
-use readers::{Answer, Claxon};
-use signal::{interleaved, Kind};
+//! Frames written by this repository's writer, read by claxon and, wrapped into a stream, by the program `flac`: the
+//! samples must come back. It ends with status 1 where they do not.
+use common::draw::Draw;
+use common::flac;
+use common::readers::{Answer, Claxon};
+use common::signal::{interleaved, Kind};
 use std::path::{Path, PathBuf};
 use thriftacorn::{write_frame, Blocking, Settings};
 
 /// How many frames a stream has. The last is shorter where it can be.
 const FRAMES: usize = 4;
 
-const SIZES: [usize; 20] = [1, 2, 3, 4, 5, 15, 16, 17, 64, 192, 255, 256, 257, 576, 1000, 1152, 2304, 4096, 4608, 5000];
+/// The block sizes of every channel code and every number of bits; the largest are for some of them.
+const SIZES: [usize; 22] =
+    [1, 2, 3, 4, 5, 15, 16, 17, 64, 192, 255, 256, 257, 576, 1000, 1152, 2304, 4096, 4608, 5000, 16384, 65535];
 
 fn stop(settings: &Settings, what: &str, who: &str) -> ! {
     println!("{who} parts from the writer: {what}, {settings:?}");
@@ -64,8 +57,8 @@ fn stream_header(settings: &Settings, total: usize) -> Vec<u8> {
     header
 }
 
-/// A stream of some frames. RFC 9639 lets no stream have blocks below 16 samples but its last, and `flac` takes them under
-/// variable blocking.
+/// A stream of some frames, and its sound. RFC 9639 lets no stream have blocks below 16 samples but the last one; `flac`
+/// takes them under variable blocking.
 fn write_stream(draw: &mut Draw, settings: &Settings) -> (Vec<u8>, Vec<i32>) {
     let (channels, size) = (settings.channels(), settings.block_size);
     let last = if size > 16 { draw.from(1, size as u32) as usize } else { size };
@@ -86,7 +79,18 @@ fn write_stream(draw: &mut Draw, settings: &Settings) -> (Vec<u8>, Vec<i32>) {
     (stream, sound)
 }
 
-/// Every channel code, every number of bits, every size of the list, both ways of blocking.
+/// A stream of these settings, held against `flac` where there is a folder for its files.
+fn check(draw: &mut Draw, settings: &Settings, folder: Option<&Path>) {
+    let (stream, sound) = write_stream(draw, settings);
+    let Some(folder) = folder else { return };
+    match flac::decode(folder, &stream, settings.bits) {
+        None => stop(settings, "it refuses a stream", "flac"),
+        Some(read) if read != sound => stop(settings, "other samples", "flac"),
+        Some(_) => {}
+    }
+}
+
+/// Every channel code, every number of bits, every size, both ways of blocking. Returns how many streams there were.
 fn run(folder: Option<&Path>) -> usize {
     let mut draw = Draw::new(9639, "written");
     let mut streams = 0;
@@ -95,15 +99,9 @@ fn run(folder: Option<&Path>) -> usize {
             for block_size in SIZES {
                 let fixed = block_size >= 16 && draw.once_in(2);
                 let blocking = if fixed { Blocking::Fixed } else { Blocking::Variable };
-                let settings = Settings { channel_code, bits, blocking, number: 0, block_size };
-                let (stream, sound) = write_stream(&mut draw, &settings);
-                streams += 1;
-                if let Some(folder) = folder {
-                    match flac::decode(folder, &stream, bits) {
-                        None => stop(&settings, "it refuses a stream", "flac"),
-                        Some(read) if read != sound => stop(&settings, "other samples", "flac"),
-                        Some(_) => {}
-                    }
+                if block_size <= 5000 || draw.once_in(8) {
+                    check(&mut draw, &Settings { channel_code, bits, blocking, number: 0, block_size }, folder);
+                    streams += 1;
                 }
             }
         }
@@ -115,9 +113,9 @@ fn main() {
     let folder = PathBuf::from(std::env::args().nth(1).expect("a folder for files on the way"));
     let flac = flac::is_there();
     let streams = run(flac.then_some(&folder));
-    println!("{} frames, all as written by claxon", streams * FRAMES);
+    println!("claxon reads {} written frames, all with their samples", streams * FRAMES);
     if flac {
-        println!("{streams} streams of them, all as written by flac");
+        println!("flac reads {streams} streams of them, all with their samples");
     } else {
         println!("flac: skipped, it is not at hand");
     }

@@ -65,7 +65,8 @@ impl Frame {
 /// |---|---|
 /// | a frame | the first N are the samples, the others untouched |
 /// | 1, 3, 5, 6, 7 | untouched |
-/// | 2, 4, 8, 9 | untouched until the first bit of the first subframe was read; from then on the first N are zero, the others untouched |
+/// | 2, 4, 8, 9, before the first subframe's first bit was read | untouched |
+/// | 2, 4, 8, 9, from then on | the first N are zero, the others untouched |
 /// | 10 | the first N are zero, the others untouched |
 ///
 /// More bytes never unsay an answer other than 1 and 2, and more room changes none but 7. A room of 8 times 65535 is
@@ -81,7 +82,7 @@ impl Frame {
 pub fn read_frame(bytes: &[u8], samples: &mut [i32]) -> Result<Frame, Refusal> {
     let mut frame = Frame { consumed: 0, first_sample: 0, channels: 0, bits: 0, block_size: 0 };
     // SAFETY: each slice is passed as its own pointer and length, so it may be read (`bytes`) or written (`samples`) in
-    // full; an empty slice's pointer is not null, and aligned. The five places are parts of `frame`, and nothing here
+    // full; an empty slice's pointer is not null, and aligned. The five places are parts of `frame`, and nothing
     // overlaps. The function asks for nothing else (it has no precondition), touches no other memory, and returns.
     let number = unsafe {
         thriftacorn_read_frame(

@@ -109,7 +109,7 @@ impl Settings {
 pub fn write_frame(samples: &[i32], settings: &Settings, out: &mut [u8]) -> Result<usize, Refusal> {
     let mut length = 0;
     // SAFETY: each slice is passed as its own pointer and length, so it may be read (`samples`) or written (`out`) in
-    // full; an empty slice's pointer is not null, and aligned. `length` is a place of its own, and nothing here overlaps.
+    // full; an empty slice's pointer is not null, and aligned. `length` is a place of its own, and nothing overlaps.
     // The function asks for nothing else (it has no precondition), touches no other memory, and returns.
     let number = unsafe {
         thriftacorn_write_frame(
