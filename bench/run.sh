@@ -26,13 +26,14 @@ instructions() { # WHO: how many instructions one reading of the short stream ta
     fi
 }
 
-count() { # LEVEL: a row of the table
-    "$out/reading" short "$out" "$1" || exit 1
+count() { # LEVEL SECONDS: a row of the table
+    "$out/reading" short "$out" "$1" "$2" || exit 1
     bytes=$("$out/reading" once none "$out/material.flac")
     start=$(instructions none)
     ours=$(($(instructions ours) - start))
     theirs=$(($(instructions claxon) - start))
-    echo "$1 $bytes $ours $theirs" | awk '{ printf "| flac %s | %.1f | %.1f | %.2f |\n", $1, $3 / $2, $4 / $2, $3 / $4 }'
+    echo "$1 $2 $bytes $ours $theirs" |
+        awk '{ printf "| flac %s, %d seconds | %.1f | %.1f | %.2f |\n", $1, $2, $4 / $3, $5 / $3, $4 / $5 }'
 }
 
 build reading "$root/bench/src/reading.rs" || exit 1
@@ -54,8 +55,8 @@ else
     echo
     echo "| input | ours | claxon | ours / claxon |"
     echo "|---|---|---|---|"
-    count -5
-    count -8
+    for length in 5 10 20 40; do count -5 "$length"; done
+    count -8 5
 fi
 echo
 build writing "$root/bench/src/writing.rs" || exit 1

@@ -17,6 +17,7 @@ const BITS: u32 = 24;
 const ROOM: usize = 8 * 65535;
 /// How often each reader is run, by turns; the best of its times counts.
 const TURNS: usize = 7;
+const MEGABYTE: usize = 1 << 20;
 
 /// Reads frame after frame, and hands each block's samples on. Returns how many bytes were read.
 fn ours(bytes: &[u8], samples: &mut [i32], mut with: impl FnMut(&[i32])) -> usize {
@@ -75,22 +76,49 @@ fn timed(work: impl FnOnce() -> usize) -> Duration {
     start.elapsed()
 }
 
-/// Both readers on the same bytes: once to see that they agree, then by turns.
-fn measure(bytes: &[u8]) -> Times {
-    let mut buffer = vec![0; ROOM];
-    let (mut count, mut sum, mut other) = (0, 0i64, 0i64);
-    let tally =
-        |sum: i64, block: &[i32]| block.iter().fold(sum, |sum, x| sum.wrapping_mul(31).wrapping_add(i64::from(*x)));
-    let end = ours(bytes, &mut buffer, |block| (count, sum) = (count + block.len(), tally(sum, block)));
-    let same = claxon(bytes, Vec::new(), |block| other = tally(other, block));
+/// That both readers read all of these bytes, and the same samples. Returns how many.
+fn agree(bytes: &[u8]) -> usize {
+    let tally = |sum: i64, x: &i32| sum.wrapping_mul(31).wrapping_add(i64::from(*x));
+    let (mut count, mut sum, mut other) = (0, 0, 0);
+    let end = ours(bytes, &mut vec![0; ROOM], |block| {
+        count += block.len();
+        sum = block.iter().fold(sum, tally);
+    });
+    let same = claxon(bytes, Vec::new(), |block| other = block.iter().fold(other, tally));
     assert!(end == bytes.len() && same == end && sum == other, "the readers part, or stop before the end");
-    let mut times = Times { bytes: end, samples: count, ours: Duration::MAX, claxon: Duration::MAX };
-    for _ in 0..TURNS {
-        times.ours = times.ours.min(timed(|| ours(bytes, &mut buffer, keep)));
-        let room = vec![0; ROOM];
-        times.claxon = times.claxon.min(timed(|| claxon(bytes, room, keep)));
+    count
+}
+
+/// Both readers by turns, on one piece of the bytes after the other: the best times of each piece are added up.
+fn measure(bytes: &[u8], piece: usize) -> Times {
+    let mut times = Times { bytes: bytes.len(), samples: agree(bytes), ours: Duration::ZERO, claxon: Duration::ZERO };
+    let mut buffer = vec![1; ROOM];
+    let mut rest = bytes;
+    while !rest.is_empty() {
+        let (piece, behind) = rest.split_at(frames_within(rest, piece));
+        let (mut best, mut other) = (Duration::MAX, Duration::MAX);
+        for _ in 0..TURNS {
+            best = best.min(timed(|| ours(piece, &mut buffer, keep)));
+            // claxon drops its buffer at the end of the input.
+            let room = vec![1; ROOM];
+            other = other.min(timed(|| claxon(piece, room, keep)));
+        }
+        times.ours += best;
+        times.claxon += other;
+        rest = behind;
     }
     times
+}
+
+/// The length of the frames that lie within so many bytes, at least one.
+fn frames_within(bytes: &[u8], length: usize) -> usize {
+    let mut frames = Frames::new(bytes);
+    let mut samples = vec![0; ROOM];
+    let mut end = 0;
+    while frames.read(&mut samples).is_ok() && (end == 0 || frames.place() <= length) {
+        end = frames.place();
+    }
+    end
 }
 
 /// The frames of this sound, encoded with these words.
@@ -99,34 +127,25 @@ fn stream(folder: &Path, sound: &[i32], words: &[&str]) -> Vec<u8> {
     flac::frames_of(&stream).to_vec()
 }
 
-/// The first of so many parts of the bytes, up to a frame's end.
-fn cut(bytes: &[u8], parts: usize) -> &[u8] {
-    let mut frames = Frames::new(bytes);
-    let mut samples = vec![0; ROOM];
-    let mut end = 0;
-    while frames.read(&mut samples).is_ok() && frames.place() <= bytes.len() / parts {
-        end = frames.place();
-    }
-    &bytes[..end]
-}
-
 fn tables(folder: &Path, seconds: usize) {
     let sound = interleaved(&mut Draw::new(9639, "bench"), RATE * seconds, CHANNELS, BITS, Kind::Sines);
     let five = stream(folder, &sound, &["-5"]);
-    println!("24-bit stereo, {seconds} seconds at {RATE} Hz, best of {TURNS} runs by turns:\n\n{HEAD}");
-    measure(&five).print("flac -5");
-    measure(&stream(folder, &sound, &["-8"])).print("flac -8");
-    measure(&stream(folder, &sound, &["-0"])).print("flac -0");
-    measure(&stream(folder, &sound, &["--lax", "-l", "32"])).print("flac --lax -l 32");
-    println!("\nWith the length of the input (flac -5):\n\n{HEAD}");
-    for parts in [8, 4, 2] {
-        measure(cut(&five, parts)).print(&format!("{} of 8", 8 / parts));
+    println!(
+        "24-bit stereo, {seconds} seconds at {RATE} Hz; of each megabyte the best of {TURNS} runs by turns:\n\n{HEAD}"
+    );
+    measure(&five, MEGABYTE).print("flac -5");
+    for words in [&["-8"][..], &["-0"], &["--lax", "-l", "32"]] {
+        measure(&stream(folder, &sound, words), MEGABYTE).print(&format!("flac {}", words.join(" ")));
     }
-    measure(&five).print("8 of 8");
+    println!("\nWith the length of the input (flac -5), the best of {TURNS} runs over all of it:\n\n{HEAD}");
+    for parts in [1, 2, 4, 8] {
+        let part = &five[..frames_within(&five, five.len() * parts / 8)];
+        measure(part, part.len()).print(&format!("{parts} of 8"));
+    }
     println!("\nWith the size of the blocks (flac -5, a quarter of the sound):\n\n{HEAD}");
     for size in ["4096", "8192", "16384", "32768"] {
         let bytes = stream(folder, &sound[..sound.len() / 4], &["--lax", "-5", "-b", size]);
-        measure(&bytes).print(&format!("blocks of {size}"));
+        measure(&bytes, MEGABYTE).print(&format!("blocks of {size}"));
     }
 }
 
@@ -143,18 +162,19 @@ fn once(who: &str, file: &str) {
     println!("{end}");
 }
 
-/// A short stream for counting, at this level.
-fn short(folder: &Path, level: &str) {
-    let sound = interleaved(&mut Draw::new(9639, "bench"), 5 * RATE, CHANNELS, BITS, Kind::Sines);
+/// A stream for counting, at this level and of this many seconds.
+fn short(folder: &Path, level: &str, seconds: usize) {
+    let sound = interleaved(&mut Draw::new(9639, "bench"), RATE * seconds, CHANNELS, BITS, Kind::Sines);
     flac::encode(folder, &sound, CHANNELS, BITS, &[level]).expect("flac encodes the sound");
 }
 
 fn main() {
     let words: Vec<String> = std::env::args().skip(1).collect();
+    let number = |word: &str| word.parse().expect("a number of seconds");
     match words.iter().map(String::as_str).collect::<Vec<_>>()[..] {
-        ["tables", folder, seconds] => tables(Path::new(folder), seconds.parse().expect("a number of seconds")),
-        ["short", folder, level] => short(Path::new(folder), level),
+        ["tables", folder, seconds] => tables(Path::new(folder), number(seconds)),
+        ["short", folder, level, seconds] => short(Path::new(folder), level, number(seconds)),
         ["once", who, file] => once(who, file),
-        _ => panic!("tables FOLDER SECONDS, short FOLDER LEVEL, or once WHO FILE"),
+        _ => panic!("tables FOLDER SECONDS, short FOLDER LEVEL SECONDS, or once WHO FILE"),
     }
 }
