@@ -1,8 +1,10 @@
 #!/bin/sh
-# Runs a built program on its stored cases: sh cases/run.sh NAME. A line of cases/NAME.txt is a case's name, its input and
-# the output that it must have, in hex ('-' for none). The last line says how many cases passed and failed.
+# Runs a built program on stored cases: sh cases/run.sh NAME [LIST]. The list is cases/LIST.txt, by default cases/NAME.txt; a
+# line of it is a case's name, its input and the output that it must have, in hex ('-' for none). The last line says how many
+# cases passed and failed.
 set -u
 cd "$(dirname "$0")/.." || exit 2
+list=${2:-$1}
 passed=0 failed=0
 bytes() { # hex to bytes
     [ "$1" = - ] && return
@@ -17,6 +19,6 @@ while read -r name input wanted; do
         failed=$((failed + 1))
         echo "$1, case $name: wrote ${wrote:--}, and not $wanted"
     fi
-done <"cases/$1.txt"
-echo "$1: $passed passed, $failed failed"
+done <"cases/$list.txt"
+echo "$list: $passed passed, $failed failed"
 [ "$failed" -eq 0 ]

@@ -1,0 +1,97 @@
+//! Why a frame was not read or not written.
+use std::{error::Error, fmt};
+
+/// Why a frame was not read (1 to 10) or not written (11 to 13). Each cause has one number.
+#[derive(Clone, Copy, Debug, PartialEq, Eq, Hash)]
+#[repr(u8)]
+pub enum Refusal {
+    /// 1: the input is empty.
+    NothingLeft = 1,
+    /// 2: the next bit or byte that is wanted is not there. More bytes may make it a frame.
+    CutShort = 2,
+    /// 3: the sync bits are wrong.
+    NotSync = 3,
+    /// 4: a reserved or forbidden value, or a one in a bit that must be zero.
+    Reserved = 4,
+    /// 5: the coded number is malformed or too large.
+    BadNumber = 5,
+    /// 6: the header's CRC-8 differs.
+    HeaderSum = 6,
+    /// 7: the frame has more samples than there is room for.
+    NoRoom = 7,
+    /// 8: a part of the format that is not read: bits from the stream's header, 32 bits, partitions stored plain, a
+    /// negative prediction shift.
+    NotDone = 8,
+    /// 9: sizes that contradict each other.
+    BadShape = 9,
+    /// 10: the frame's CRC-16 differs.
+    FrameSum = 10,
+    /// 11: a setting outside its range, or a count of samples that is not the frame's.
+    BadArgument = 11,
+    /// 12: a sample that does not fit the bits.
+    SampleRange = 12,
+    /// 13: the frame is longer than the output.
+    OutputRoom = 13,
+}
+
+/// Every cause, in the order of the numbers.
+const ALL: [Refusal; 13] = [
+    Refusal::NothingLeft,
+    Refusal::CutShort,
+    Refusal::NotSync,
+    Refusal::Reserved,
+    Refusal::BadNumber,
+    Refusal::HeaderSum,
+    Refusal::NoRoom,
+    Refusal::NotDone,
+    Refusal::BadShape,
+    Refusal::FrameSum,
+    Refusal::BadArgument,
+    Refusal::SampleRange,
+    Refusal::OutputRoom,
+];
+
+impl Refusal {
+    /// The number of this cause, 1 to 13.
+    ///
+    /// ```
+    /// assert_eq!(thriftacorn::Refusal::CutShort.number(), 2);
+    /// ```
+    pub const fn number(self) -> u8 {
+        self as u8
+    }
+
+    /// The cause with this number, if there is one.
+    ///
+    /// ```
+    /// use thriftacorn::Refusal;
+    /// assert_eq!(Refusal::from_number(10), Some(Refusal::FrameSum));
+    /// assert_eq!(Refusal::from_number(0), None);
+    /// ```
+    pub fn from_number(number: u8) -> Option<Refusal> {
+        ALL.get(usize::from(number).wrapping_sub(1)).copied()
+    }
+}
+
+/// The cause in words, as the program `frames` says it.
+impl fmt::Display for Refusal {
+    fn fmt(&self, f: &mut fmt::Formatter<'_>) -> fmt::Result {
+        f.write_str(match self {
+            Refusal::NothingLeft => "nothing left",
+            Refusal::CutShort => "cut short",
+            Refusal::NotSync => "no sync code",
+            Refusal::Reserved => "a reserved or forbidden value",
+            Refusal::BadNumber => "a bad frame or sample number",
+            Refusal::HeaderSum => "the header's CRC-8 differs",
+            Refusal::NoRoom => "no room for the samples",
+            Refusal::NotDone => "a part of the format that is not read",
+            Refusal::BadShape => "sizes that contradict each other",
+            Refusal::FrameSum => "the frame's CRC-16 differs",
+            Refusal::BadArgument => "an argument out of range",
+            Refusal::SampleRange => "a sample out of range",
+            Refusal::OutputRoom => "no room for the frame",
+        })
+    }
+}
+
+impl Error for Refusal {}

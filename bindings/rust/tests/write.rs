@@ -1,0 +1,127 @@
+//! The writer's answers through the binding, with what the output holds after each, and that frames read back.
+use thriftacorn::{read_frame, write_frame, Blocking, Frame, Refusal, Settings};
+
+const ONE: Settings = Settings { channel_code: 0, bits: 16, blocking: Blocking::Fixed, number: 0, block_size: 1 };
+
+/// What a write answers, and what it leaves of an output of twenty bytes that each held 9.
+fn write(samples: &[i32], settings: &Settings) -> (Result<usize, Refusal>, [u8; 20]) {
+    let mut out = [9; 20];
+    (write_frame(samples, settings, &mut out), out)
+}
+
+#[test]
+fn a_frame_is_written_to_the_front() {
+    let head = [0xFF, 0xF8, 0x60, 0x08, 0x00, 0x00, 0xBB];
+    // A constant takes 24 bits; a residual of 10, folded, takes 23.
+    for (sample, body) in [(12345, [0x00, 0x30, 0x39, 0xE8, 0xB4]), (5, [0x10, 0x00, 0x8C, 0x4A, 0x4A])] {
+        let (answer, out) = write(&[sample], &ONE);
+        assert_eq!(answer, Ok(12));
+        assert_eq!((&out[..7], &out[7..12], &out[12..]), (&head[..], &body[..], &[9; 8][..]));
+    }
+}
+
+#[test]
+fn settings_out_of_range_are_refused_first() {
+    let refused = (Err(Refusal::BadArgument), [9; 20]);
+    for settings in [
+        Settings { channel_code: 11, ..ONE },
+        Settings { channel_code: u32::MAX, ..ONE },
+        Settings { bits: 0, ..ONE },
+        Settings { bits: 17, ..ONE },
+        Settings { bits: 32, ..ONE },
+        Settings { block_size: 0, ..ONE },
+        Settings { block_size: 65536, ..ONE },
+        Settings { block_size: usize::MAX, ..ONE },
+        Settings { number: 1 << 31, ..ONE },
+        Settings { number: 1 << 36, blocking: Blocking::Variable, ..ONE },
+    ] {
+        assert_eq!(write(&[1 << 20], &settings), refused, "{settings:?}");
+    }
+    assert_eq!(write(&[], &ONE), refused);
+    assert_eq!(write(&[1 << 20; 2], &ONE), refused);
+}
+
+#[test]
+fn samples_must_fit_the_bits() {
+    for bits in [8, 12, 16, 20, 24] {
+        let top = 1 << (bits - 1);
+        let settings = Settings { bits, ..ONE };
+        assert_eq!(write(&[top], &settings), (Err(Refusal::SampleRange), [9; 20]));
+        assert_eq!(write(&[-top - 1], &settings), (Err(Refusal::SampleRange), [9; 20]));
+        assert!(write(&[top - 1], &settings).0.is_ok());
+        assert!(write(&[-top], &settings).0.is_ok());
+    }
+}
+
+#[test]
+fn an_output_that_is_too_short_stays_as_it_was() {
+    for room in 0..12 {
+        let mut out = vec![9; room];
+        assert_eq!(write_frame(&[5], &ONE, &mut out), Err(Refusal::OutputRoom));
+        assert_eq!(out, vec![9; room]);
+    }
+    assert_eq!(write_frame(&[5], &ONE, &mut [9; 12]), Ok(12));
+    assert_eq!(write_frame(&[], &ONE, &mut []), Err(Refusal::BadArgument));
+}
+
+#[test]
+fn the_longest_frame_is_bounded() {
+    assert_eq!(ONE.longest(), 19);
+    assert_eq!(Settings { channel_code: Settings::LEFT_SIDE, block_size: 4096, ..ONE }.longest(), 16914);
+    for code in [11, u32::MAX] {
+        assert_eq!(Settings { channel_code: code, ..ONE }.longest(), 0);
+    }
+    assert_eq!(Settings { bits: 9, ..ONE }.longest(), 0);
+    assert_eq!(Settings { block_size: usize::MAX, ..ONE }.longest(), 0);
+}
+
+/// Samples of these bits, from loud noise to silence as `kind` goes from 0 to 3.
+fn signal(count: usize, bits: u32, kind: u32, seed: &mut u64) -> Vec<i32> {
+    let draw = |i: usize, seed: &mut u64| {
+        *seed = seed.wrapping_mul(6364136223846793005).wrapping_add(1442695040888963407);
+        let noise = (*seed >> 32) as i32 >> (32 - bits);
+        match kind {
+            0 => noise,
+            1 => (noise >> 5) + ((i as f64 / 9.0).sin() * f64::from(1 << (bits - 2))) as i32,
+            2 => (i as i32 % 50) - 20,
+            _ => -3,
+        }
+    };
+    (0..count).map(|i| draw(i, seed)).collect()
+}
+
+/// Writes these samples, reads them back, and holds the report to the settings.
+fn reads_back(samples: &[i32], settings: &Settings) {
+    let mut out = vec![0; settings.longest()];
+    let length = write_frame(samples, settings, &mut out).unwrap();
+    let mut again = vec![0; samples.len()];
+    let frame = read_frame(&out[..length], &mut again).unwrap();
+    let first_sample = match settings.blocking {
+        Blocking::Fixed => settings.number * settings.block_size as u64,
+        Blocking::Variable => settings.number,
+    };
+    let (bits, block_size) = (settings.bits, settings.block_size);
+    assert_eq!(frame, Frame { consumed: length, first_sample, channels: settings.channels(), bits, block_size });
+    assert!(again == samples, "{settings:?}");
+}
+
+#[test]
+fn frames_read_back() {
+    let mut seed = 1;
+    for channel_code in 0..=10 {
+        for bits in [8, 12, 16, 20, 24] {
+            for (n, block_size) in [1, 2, 3, 4, 5, 16, 192, 255, 257, 1000].into_iter().enumerate() {
+                let blocking = if n % 2 == 0 { Blocking::Fixed } else { Blocking::Variable };
+                let settings = Settings { channel_code, bits, blocking, number: 1 << (3 * n), block_size };
+                let kind = (n as u32 + channel_code + bits / 4) % 4;
+                reads_back(&signal(settings.channels() * block_size, bits, kind, &mut seed), &settings);
+            }
+        }
+    }
+}
+
+#[test]
+fn the_largest_block_reads_back() {
+    let settings = Settings { channel_code: 7, bits: 24, block_size: 65535, ..ONE };
+    reads_back(&signal(8 * 65535, 24, 0, &mut 5), &settings);
+}

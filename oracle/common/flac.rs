@@ -1,0 +1,71 @@
+//! The program `flac`, run on files in a folder.
+use crate::signal::{raw, unraw, wave};
+use std::fs;
+use std::path::Path;
+use std::process::{Command, Stdio};
+
+/// Whether `flac` is at hand.
+pub fn is_there() -> bool {
+    succeeds(Command::new("flac").arg("--version"))
+}
+
+fn succeeds(command: &mut Command) -> bool {
+    let status = command.stdout(Stdio::null()).stderr(Stdio::null()).status();
+    status.is_ok_and(|status| status.success())
+}
+
+/// The words for samples without a file header: `flac` takes and gives them in whole bytes only.
+const RAW: [&str; 3] = ["--force-raw-format", "--endian=little", "--sign=signed"];
+
+/// Encodes interleaved samples with these words; `None` where `flac` does not take them.
+pub fn encode(folder: &Path, samples: &[i32], channels: usize, bits: u32, words: &[&str]) -> Option<Vec<u8>> {
+    let input = folder.join("material.sound");
+    let output = folder.join("material.flac");
+    let mut command = Command::new("flac");
+    command.args(["-s", "-f", "--no-padding", "--channel-map=none"]);
+    if bits % 8 == 0 {
+        fs::write(&input, raw(samples, bits)).expect("the sound is written");
+        command.args(RAW).arg("--sample-rate=48000");
+        command.args([format!("--channels={channels}"), format!("--bps={bits}")]);
+    } else {
+        fs::write(&input, wave(samples, channels, bits)).expect("the sound is written");
+    }
+    let done = succeeds(command.args(words).arg("-o").args([&output, &input]));
+    done.then(|| fs::read(&output).expect("the stream is read"))
+}
+
+/// Decodes a stream to interleaved samples; `None` where `flac` does not take it.
+pub fn decode(folder: &Path, stream: &[u8], bits: u32) -> Option<Vec<i32>> {
+    let input = folder.join("again.flac");
+    let output = folder.join("again.sound");
+    fs::write(&input, stream).expect("the stream is written");
+    let mut command = Command::new("flac");
+    command.args(["-d", "-s", "-f", "--channel-map=none"]);
+    if bits % 8 == 0 {
+        command.args(RAW);
+    }
+    if !succeeds(command.arg("-o").args([&output, &input])) {
+        return None;
+    }
+    let bytes = fs::read(&output).expect("the sound is read");
+    // A WAVE file's samples stand behind the word 'data' and their length.
+    let start = match bits % 8 {
+        0 => 0,
+        _ => bytes.windows(4).position(|word| word == b"data").expect("a WAVE file has data") + 8,
+    };
+    Some(unraw(&bytes[start..], bits))
+}
+
+/// A stream's frames: what stands behind the metadata.
+pub fn frames_of(stream: &[u8]) -> &[u8] {
+    assert_eq!(&stream[..4], b"fLaC");
+    let mut at = 4;
+    loop {
+        let length = u32::from_be_bytes([0, stream[at + 1], stream[at + 2], stream[at + 3]]) as usize;
+        let last = stream[at] & 0x80 != 0;
+        at += 4 + length;
+        if last {
+            return &stream[at..];
+        }
+    }
+}

@@ -1,0 +1,168 @@
+//! The families of drawn inputs. Each unit draws a frame or a few, and has the judge read what it makes of them.
+use crate::fault::FAULTS;
+use crate::frame::{mend, write_frame, Sizes, Taste, Written};
+use crate::judge::Judge;
+use crate::pen::{crc8, Pen};
+use common::draw::Draw;
+
+pub struct Family {
+    pub name: &'static str,
+    /// How many units a round has.
+    pub units: u32,
+    pub unit: fn(&mut Judge, usize, &mut Draw, &mut Pen),
+}
+
+pub const FAMILIES: [Family; 10] = [
+    Family { name: "built", units: 150, unit: built },
+    Family { name: "built-tiny", units: 300, unit: built_tiny },
+    Family { name: "extremes", units: 300, unit: extremes },
+    Family { name: "faults", units: 6, unit: faults },
+    Family { name: "cuts", units: 2, unit: cuts },
+    Family { name: "flips", units: 10, unit: flips },
+    Family { name: "flips-mended", units: 20, unit: flips_mended },
+    Family { name: "noise", units: 60, unit: noise },
+    Family { name: "rows", units: 20, unit: rows },
+    Family { name: "room", units: 20, unit: room },
+];
+
+const MIXED: Taste = Taste { sizes: Sizes::Mixed, fault: None, extreme: false };
+const TINY: Taste = Taste { sizes: Sizes::Tiny, ..MIXED };
+
+/// One frame, alone in the pen.
+fn single(draw: &mut Draw, pen: &mut Pen, taste: Taste) -> Written {
+    pen.clear();
+    write_frame(pen, draw, taste)
+}
+
+/// Any legal frame.
+fn built(judge: &mut Judge, family: usize, draw: &mut Draw, pen: &mut Pen) {
+    single(draw, pen, MIXED);
+    judge.made_for(0, family, &pen.bytes);
+}
+
+/// Any legal frame of at most 24 samples.
+fn built_tiny(judge: &mut Judge, family: usize, draw: &mut Draw, pen: &mut Pen) {
+    single(draw, pen, TINY);
+    judge.made_for(0, family, &pen.bytes);
+}
+
+/// Samples, coefficients and residuals at the ends of their ranges: residuals out of range, wraps in prediction and in
+/// side decoding.
+fn extremes(judge: &mut Judge, family: usize, draw: &mut Draw, pen: &mut Pen) {
+    single(draw, pen, Taste { extreme: true, ..TINY });
+    judge.made_for(0, family, &pen.bytes);
+}
+
+/// Each field wrong in turn, with the check sums right.
+fn faults(judge: &mut Judge, family: usize, draw: &mut Draw, pen: &mut Pen) {
+    for (fault, number) in FAULTS {
+        single(draw, pen, Taste { fault: Some(fault), ..TINY });
+        judge.made_for(number, family, &pen.bytes);
+    }
+}
+
+/// A frame cut at every byte, or a long one at some.
+fn cuts(judge: &mut Judge, family: usize, draw: &mut Draw, pen: &mut Pen) {
+    let taste = if draw.once_in(4) { MIXED } else { TINY };
+    single(draw, pen, taste);
+    let length = pen.bytes.len();
+    let step = 1 + length / 300;
+    for cut in (0..length).step_by(step) {
+        judge.one(family, &pen.bytes[..cut]);
+    }
+}
+
+/// Changes one to three bits.
+fn flip(draw: &mut Draw, bytes: &mut [u8]) {
+    for _ in 0..draw.from(1, 3) {
+        let at = draw.below(8 * bytes.len() as u32);
+        bytes[at as usize / 8] ^= 1 << (at % 8);
+    }
+}
+
+/// Bits changed anywhere, the check sums left as they are.
+fn flips(judge: &mut Judge, family: usize, draw: &mut Draw, pen: &mut Pen) {
+    single(draw, pen, TINY);
+    let mut bytes = pen.bytes.clone();
+    for _ in 0..16 {
+        bytes.copy_from_slice(&pen.bytes);
+        flip(draw, &mut bytes);
+        judge.one(family, &bytes);
+    }
+}
+
+/// Bits changed anywhere, and the check sums made right again.
+fn flips_mended(judge: &mut Judge, family: usize, draw: &mut Draw, pen: &mut Pen) {
+    let written = single(draw, pen, TINY);
+    let mut bytes = Vec::with_capacity(pen.bytes.len() + 8);
+    for _ in 0..16 {
+        bytes.clone_from(&pen.bytes);
+        damage(draw, &mut bytes, written.header);
+        judge.one(family, &bytes);
+    }
+}
+
+/// Changes a few bits of a frame, mostly behind its header, at times its length too, and makes its sums right again.
+pub fn damage(draw: &mut Draw, frame: &mut Vec<u8>, header: usize) {
+    let end = frame.len() - 2;
+    let from = if draw.once_in(3) { 0 } else { header };
+    flip(draw, &mut frame[from..end]);
+    if draw.once_in(4) {
+        let length = (end + draw.below(8) as usize).max(header + 4) - 3;
+        frame.resize(length + 2, 0x55);
+    }
+    mend(frame, header);
+}
+
+/// A right header, a subframe type, then anything.
+fn noise(judge: &mut Judge, family: usize, draw: &mut Draw, pen: &mut Pen) {
+    let written = single(draw, pen, TINY);
+    pen.bytes.truncate(written.header);
+    let kind = draw.pick(&[0, 1, 8, 9, 10, 11, 12, 32, 33, 34, 39, 43, 44]);
+    pen.bytes.push(kind << 1 | u8::from(draw.once_in(8)));
+    let dense = draw.next();
+    for _ in 0..draw.below(60) {
+        let byte = draw.next();
+        pen.bytes.push(if draw.once_in(2) { byte & dense } else { byte } as u8);
+    }
+    if pen.bytes.len() >= written.header + 2 {
+        mend(&mut pen.bytes, written.header);
+    }
+    judge.one(family, &pen.bytes);
+}
+
+/// Frames one behind the other, then rubbish.
+fn rows(judge: &mut Judge, family: usize, draw: &mut Draw, pen: &mut Pen) {
+    pen.clear();
+    for _ in 0..draw.from(2, 6) {
+        write_frame(pen, draw, TINY);
+    }
+    let end = pen.bytes.len();
+    match draw.below(5) {
+        0 => {}
+        1 => pen.bytes.extend([0xFF, 0xF8]),
+        2 => pen.bytes.resize(end + draw.below(9) as usize, 0),
+        3 => {
+            write_frame(pen, draw, TINY);
+            let more = pen.bytes.len() - end;
+            pen.bytes.truncate(end + draw.below(more as u32) as usize);
+        }
+        _ => (0..draw.below(20)).for_each(|_| pen.bytes.push(draw.next() as u8)),
+    }
+    judge.row(family, &pen.bytes);
+}
+
+/// Frames with too little room, just enough, and more; at times cut or with a wrong sum.
+fn room(judge: &mut Judge, family: usize, draw: &mut Draw, pen: &mut Pen) {
+    let written = single(draw, pen, TINY);
+    match draw.below(4) {
+        0 => pen.bytes.truncate(draw.from(0, pen.bytes.len() as u32) as usize),
+        1 => *pen.bytes.last_mut().expect("a frame has bytes") ^= 1,
+        2 => pen.bytes[written.header - 1] = crc8(&pen.bytes[..written.header - 1]) ^ draw.below(2) as u8,
+        _ => {}
+    }
+    let some = draw.below(written.samples as u32) as usize;
+    for room in [0, some, written.samples - 1, written.samples, written.samples + 1] {
+        judge.lent(family, &pen.bytes, room);
+    }
+}

@@ -1,0 +1,63 @@
+//! Every field of a frame that can be wrong, and the refusal that document 01 has for it.
+
+#[derive(Clone, Copy, Debug, PartialEq, Eq)]
+pub enum Fault {
+    Sync,
+    SizeZero,
+    RateFifteen,
+    ChannelsReserved,
+    BitsThree,
+    BitsSeven,
+    BitsZero,
+    HeaderZeroBit,
+    NumberFollowerFirst,
+    NumberFf,
+    NumberFollower,
+    NumberLimit,
+    Size65535,
+    HeaderSum,
+    SubframeZeroBit,
+    TypeReserved,
+    WastedWidth,
+    WastedOver31,
+    OrderOverSize,
+    Precision,
+    Shift,
+    Method,
+    PartitionOrder,
+    WarmUp,
+    Parameter,
+    FrameSum,
+}
+
+use Fault::*;
+
+/// The faults in the order of the bits, each with its refusal.
+pub const FAULTS: [(Fault, u8); 26] = [
+    (Sync, 3),
+    (SizeZero, 4),
+    (RateFifteen, 4),
+    (ChannelsReserved, 4),
+    (BitsThree, 4),
+    (BitsSeven, 8),
+    (BitsZero, 8),
+    (HeaderZeroBit, 4),
+    (NumberFollowerFirst, 5),
+    (NumberFf, 5),
+    (NumberFollower, 5),
+    (NumberLimit, 5),
+    (Size65535, 4),
+    (HeaderSum, 6),
+    (SubframeZeroBit, 4),
+    (TypeReserved, 4),
+    (WastedWidth, 9),
+    (WastedOver31, 9),
+    (OrderOverSize, 9),
+    (Precision, 4),
+    (Shift, 8),
+    (Method, 4),
+    (PartitionOrder, 9),
+    (WarmUp, 9),
+    (Parameter, 8),
+    (FrameSum, 10),
+];

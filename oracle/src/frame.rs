@@ -1,0 +1,82 @@
+//! Whole frames, freely drawn, with the check sums right.
+use crate::fault::Fault::{self, *};
+use crate::header::Header;
+pub use crate::header::Sizes;
+use crate::pen::{crc16, crc8, Pen};
+use crate::subframe::Subframe;
+use common::draw::Draw;
+
+/// What kind of frame is wanted.
+#[derive(Clone, Copy)]
+pub struct Taste {
+    pub sizes: Sizes,
+    pub fault: Option<Fault>,
+    pub extreme: bool,
+}
+
+/// What was written of a frame.
+#[derive(Clone, Copy)]
+pub struct Written {
+    /// The length of the header, its CRC-8 counted.
+    pub header: usize,
+    /// How many samples the frame has.
+    pub samples: usize,
+}
+
+/// The faults that lie in a subframe.
+fn is_in_subframe(fault: Fault) -> bool {
+    !is_in_header(fault) && fault != FrameSum
+}
+
+fn is_in_header(fault: Fault) -> bool {
+    (fault as u32) <= HeaderSum as u32
+}
+
+/// Adds a frame to the pen, which holds whole bytes.
+pub fn write_frame(pen: &mut Pen, draw: &mut Draw, taste: Taste) -> Written {
+    let start = pen.bytes.len();
+    let mut header = Header::draw(draw, taste.sizes);
+    header.suit(draw, taste.fault);
+    header.write(pen, draw, taste.fault);
+    let length = pen.bytes.len() - start;
+    let faulty = draw.below(header.channels());
+    // Behind a faulty header a short body is enough.
+    let size = if taste.fault.is_some_and(is_in_header) { header.size.min(9) } else { header.size };
+    for channel in 0..header.channels() {
+        let fault = taste.fault.filter(|fault| is_in_subframe(*fault) && channel == faulty);
+        let width = header.width(channel);
+        Subframe { pen, draw, size, width, fault, extreme: taste.extreme }.write();
+    }
+    let padding = draw.next();
+    pen.align(if draw.once_in(2) { padding } else { 0 });
+    let wrong = if taste.fault == Some(FrameSum) { draw.from(1, 65535) as u16 } else { 0 };
+    pen.put(u64::from(crc16(&pen.bytes[start..]) ^ wrong), 16);
+    Written { header: length, samples: (header.channels() * header.size) as usize }
+}
+
+/// Makes both check sums of a frame right again after its bytes were changed.
+pub fn mend(frame: &mut [u8], header: usize) {
+    frame[header - 1] = crc8(&frame[..header - 1]);
+    let end = frame.len() - 2;
+    let sum = crc16(&frame[..end]);
+    frame[end..].copy_from_slice(&sum.to_be_bytes());
+}
+
+/// The length of an accepted frame's header, its CRC-8 counted.
+pub fn header_length(frame: &[u8]) -> usize {
+    let number = match frame[4].leading_ones() {
+        0 => 1,
+        ones => ones as usize,
+    };
+    let size = match frame[2] >> 4 {
+        6 => 1,
+        7 => 2,
+        _ => 0,
+    };
+    let rate = match frame[2] & 15 {
+        12 => 1,
+        13 | 14 => 2,
+        _ => 0,
+    };
+    4 + number + size + rate + 1
+}

@@ -1,0 +1,176 @@
+//! Subframes, freely drawn: any legal one, and each field wrong where that is asked for. The samples are whatever the
+//! bits come to.
+use crate::cover::Field;
+use crate::fault::Fault::{self, *};
+use crate::pen::Pen;
+use common::draw::Draw;
+
+/// One channel's subframe that is being written.
+pub struct Subframe<'a> {
+    pub pen: &'a mut Pen,
+    pub draw: &'a mut Draw,
+    pub size: u32,
+    pub width: u32,
+    pub fault: Option<Fault>,
+    /// Samples, coefficients and residuals at the ends of their ranges.
+    pub extreme: bool,
+}
+
+impl Subframe<'_> {
+    pub fn write(&mut self) {
+        let order = self.draw_order();
+        match (self.fault, self.draw.below(8)) {
+            (Some(OrderOverSize | Precision | Shift | Method | PartitionOrder | WarmUp | Parameter), _) => {
+                self.write_predicted(order);
+            }
+            (_, 0) => self.write_plain(0, 1),
+            (_, 1) => self.write_plain(1, self.size),
+            _ => self.write_predicted(order),
+        }
+    }
+
+    /// A predictor's order. A fixed one is a number below 5, a linear one 32 more than its order.
+    fn draw_order(&mut self) -> u32 {
+        let linear = match self.fault {
+            Some(Precision | Shift) => true,
+            _ => self.draw.once_in(2),
+        };
+        let most = if linear { 32 } else { 4 };
+        let (least, most) = match self.fault {
+            Some(OrderOverSize) => (self.size + 1, most),
+            Some(WarmUp) => ((self.size >> self.size.trailing_zeros()) + 1, most.min(self.size)),
+            _ => (u32::from(linear), most.min(self.size)),
+        };
+        if least > most {
+            // No such fixed order: a linear one serves.
+            return 32 + self.draw.from(least, 32);
+        }
+        let order = if self.draw.once_in(4) { most } else { self.draw.from(least, most) };
+        if linear {
+            32 + order
+        } else {
+            order
+        }
+    }
+
+    /// The zero bit, the type, the wasted bits. Leaves the width without them.
+    fn write_head(&mut self, kind: u32) {
+        self.pen.put(u64::from(self.fault == Some(SubframeZeroBit)), 1);
+        let kind = match self.fault {
+            Some(TypeReserved) if self.draw.once_in(2) => self.draw.from(13, 31),
+            Some(TypeReserved) => self.draw.from(2, 7),
+            _ => kind,
+        };
+        self.pen.field(Field::Type, kind, 6);
+        let wasted = match self.fault {
+            Some(WastedWidth) => self.draw.from(self.width, 31),
+            Some(WastedOver31) => 32 + self.draw.below(200),
+            _ if self.draw.once_in(4) => self.draw.from(1, self.width - 1),
+            _ => 0,
+        };
+        self.pen.cover.mark(Field::Wasted, u64::from(wasted));
+        self.pen.put(u64::from(wasted > 0), 1);
+        if wasted > 0 {
+            self.pen.unary(wasted - 1);
+        }
+        self.width = self.width.saturating_sub(wasted).max(1);
+    }
+
+    /// A signed number of this width, as bits.
+    fn draw_number(&mut self, width: u32) -> u64 {
+        if self.extreme || self.draw.once_in(16) {
+            let top = 1 << (width - 1);
+            self.draw.pick(&[top, top - 1, top, top - 1, 0, top + 1])
+        } else {
+            self.draw.next()
+        }
+    }
+
+    /// Constant and verbatim.
+    fn write_plain(&mut self, kind: u32, count: u32) {
+        self.write_head(kind);
+        for _ in 0..count {
+            let sample = self.draw_number(self.width);
+            self.pen.put(sample, self.width);
+        }
+    }
+
+    /// Fixed and linear prediction (RFC 9639 sections 9.2.5 and 9.2.6).
+    fn write_predicted(&mut self, order: u32) {
+        let (kind, warm) = if order < 32 { (8 + order, order) } else { (order - 1, order - 32) };
+        self.write_head(kind);
+        for _ in 0..warm {
+            let sample = self.draw_number(self.width);
+            self.pen.put(sample, self.width);
+        }
+        if order >= 32 {
+            let precision = if self.fault == Some(Precision) { 16 } else { self.draw.from(1, 15) };
+            self.pen.field(Field::Precision, precision - 1, 4);
+            let shift = if self.fault == Some(Shift) { self.draw.from(16, 31) } else { self.draw.below(16) };
+            self.pen.field(Field::Shift, if self.extreme { shift & 17 } else { shift }, 5);
+            for _ in 0..warm {
+                let coefficient = self.draw_number(precision);
+                self.pen.put(coefficient, precision);
+            }
+        }
+        self.write_residual(warm);
+    }
+
+    fn draw_partition_order(&mut self, warm: u32) -> u32 {
+        let zeros = self.size.trailing_zeros();
+        match self.fault {
+            Some(PartitionOrder) => (zeros + 1 + self.draw.next().trailing_zeros()).min(15),
+            Some(WarmUp) => zeros,
+            _ => {
+                let fits = (0..=zeros.min(15)).take_while(|order| self.size >> order >= warm).count();
+                self.draw.below(fits.max(1) as u32)
+            }
+        }
+    }
+
+    /// The residual (RFC 9639 section 9.2.7). A partition may be as long as the warm-up, as claxon has it.
+    fn write_residual(&mut self, warm: u32) {
+        let method = self.draw.below(2);
+        let stored = if self.fault == Some(Method) { self.draw.from(2, 3) } else { method };
+        self.pen.field(Field::Method, stored, 2);
+        let order = self.draw_partition_order(warm);
+        self.pen.field(Field::PartitionOrder, order, 4);
+        let (partitions, length) = (1 << order, self.size >> order);
+        let faulty = if self.fault == Some(Parameter) { self.draw.below(partitions) } else { partitions };
+        for partition in 0..partitions {
+            let count = if partition == 0 { length.saturating_sub(warm) } else { length };
+            if partition == faulty {
+                self.write_unfolded(method, count);
+            } else {
+                self.write_partition(method, count);
+            }
+        }
+    }
+
+    fn write_partition(&mut self, method: u32, count: u32) {
+        let (field, most) = if method == 0 { (Field::FourBitParameter, 14) } else { (Field::FiveBitParameter, 30) };
+        let parameter = if self.extreme { most } else { self.draw.from(0, most) };
+        self.pen.field(field, parameter, 4 + method);
+        for _ in 0..count {
+            let rest = if self.extreme && self.draw.once_in(2) { u64::MAX } else { self.draw.next() };
+            let quotient = match self.draw.below(1024) {
+                _ if self.extreme => self.draw.pick(&[0, 1, 2, 3, 3, 4, 5, 7]),
+                0 => self.draw.below(4000),
+                1..=8 => self.draw.below(80),
+                _ => self.draw.next().trailing_zeros(),
+            };
+            self.pen.unary(quotient);
+            self.pen.put(rest, parameter);
+        }
+    }
+
+    /// A partition stored plain (RFC 9639 section 9.2.7.2), which is not done.
+    fn write_unfolded(&mut self, method: u32, count: u32) {
+        self.pen.put(31, 4 + method);
+        let width = self.draw.below(32);
+        self.pen.put(u64::from(width), 5);
+        for _ in 0..count {
+            self.pen.put(self.draw.next(), width);
+        }
+    }
+}
