@@ -26,7 +26,8 @@ skip() {
     exit 0
 }
 
-command -v rustc >/dev/null 2>&1 || skip "there is no rustc on the PATH"
+rustc --version >/dev/null 2>&1 || skip "there is no rustc that runs"
+command -v cc >/dev/null 2>&1 || skip "there is no linker cc on the PATH"
 [ -f "$claxon/src/lib.rs" ] || skip "there is no claxon 0.4.3 at $claxon (oracle/README.md says how to get it)"
 
 # The archive: the one that THRIFTACORN_LIB names, else the repository's, made again where a source is newer.
@@ -45,6 +46,7 @@ if [ -z "$library" ]; then
         mkdir -p "$out" || exit 2
         (cd "$root" && $make) >"$out/library.log" 2>&1 || {
             tail -n 5 "$out/library.log" >&2
+            [ "$(uname -m)" = x86_64 ] || skip "the library could not be compiled for this processor"
             exit 1
         }
     fi

@@ -3,8 +3,12 @@
 # it says so, with the word 'skipped'.
 set -u
 cd "$(dirname "$0")" || exit 2
-if ! command -v cargo >/dev/null 2>&1; then
-    echo "binding: skipped, since cargo is not on the PATH"
+if ! cargo --version >/dev/null 2>&1 || ! command -v cc >/dev/null 2>&1; then
+    echo "binding: skipped, since cargo or the linker cc is not there"
+    exit 0
+fi
+if [ -z "${THRIFTACORN_LIB:-}" ] && [ "$(uname -m)" != x86_64 ]; then
+    echo "binding: skipped, since 'rt staticlib' writes for x86-64; THRIFTACORN_LIB may name a folder that has another"
     exit 0
 fi
 library=${THRIFTACORN_LIB:-../../target/staticlib}
