@@ -53,7 +53,17 @@ extend-none v = extend-low 0 v (omega arith) ∙ ap (signed 0) (mod-one v)
 pub extend-shifts : (w k v : ℕ) → w ≤ 63 → w + k ≡ 64 → shiftDown k (signed 64 ((v * 2 ^ k) % 2 ^ 64)) ≡ signExtend w v
 extend-shifts w k v h e = up-and-down w k 64 v e ∙ sym (extend-low w v h)
 
--- ---- the low bits, of all 64 bits of a number. A signed value is handed on by its bits.
+-- ---- the low bits: of a width up to 64 they are the width's
+
+pub lowBits-is : (w : ℕ) (z : ℤ) → w ≤ 64 → lowBits w z ≡ low w z
+unfolding lowBits
+lowBits-is w z h = go (leb w 63) refl
+  where
+    go : (t : Bool) → leb w 63 ≡ t → cond t (low w z) (low 64 z) ≡ low w z
+    go true e = refl
+    go false e = ap (λ n. low n z) (let f : 64 ≡ w = omega (arith, leb-false w 63 e) in f)
+
+-- as the function has them, of all 64 bits of a number. A signed value is handed on by its bits.
 
 module _ (w : ℕ) {z : ℤ} (f : SFits w64 z) {r : ℕ} (e : r ≡ low 64 (toZ w64 (ofZ w64 z))) where
   all-of : r ≡ low 64 z

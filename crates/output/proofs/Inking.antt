@@ -183,11 +183,6 @@ inked-append xs bs p s h = go (isPen p) refl
         ∙ ap (more bs) (sym (inked-is xs p s g))
     go false e = inked-none (xs ++ bs) p s e ∙ sym (inked-none bs p s e) ∙ ap (more bs) (sym (inked-none xs p s e))
 
--- a call behind a call: what both wrote
-pub inked-then : (xs bs : List ℕ) (p : Pen) (s : List ℕ) {q r : Pen} {t u : List ℕ} → Bits xs → _≡_ {A = State} (record { pen = q; bytes = t }) (inked xs p s)
-    → _≡_ {A = State} (record { pen = r; bytes = u }) (inked bs q t) → _≡_ {A = State} (record { pen = r; bytes = u }) (inked (xs ++ bs) p s)
-inked-then xs bs p s h e f = f ∙ ap (more bs) e ∙ sym (inked-append xs bs p s h)
-
 -- ---- from the start
 
 pub fresh-good : Good fresh

@@ -1,15 +1,15 @@
 -- A frame's length, and that it is within the bound, whatever the settings and the samples are. Assumes nothing.
-use Prim.Native.Nat.{ℕ, zero, suc, _+_, _-_, _*_, _/_, _%_, _≤_, _<_, min}
-use native.Mathlib.Nat.{mul-le-mul-right, mul-comm, min-le-left}
+use Prim.Native.Nat.{ℕ, zero, suc, _+_, _-_, _*_, _/_, _%_, _≤_}
+use native.Mathlib.Nat.{mul-le-mul-right, min-le-left}
 use native.Mathlib.Omega.{arith}
-use mathlib.Core.Path.{_≡_, refl, ap, ap₂, sym, _∙_}
+use mathlib.Core.Path.{_≡_, refl, ap, _∙_}
 use mathlib.Core.Bool.{Bool, true, false, cond}
 use mathlib.Core.List.{List, [], _∷_, _++_}
-use lib.Dec.{leb, ltb, eqb}
+use lib.Dec.{ltb, eqb}
 use lib.IntN.{ℤ}
-use lib.ListN.{length, take, drop, replicate, length-append, length-take, length-replicate}
+use lib.ListN.{length, drop, replicate, length-append, length-take, length-replicate}
 use Rattle.reading.specs.Bytes.{bitsOfBytes}
-use Rattle.reading.specs.Spelling.{bitsOf, row, packed}
+use Rattle.reading.specs.Spelling.{bitsOf, row}
 use Rattle.reading.proofs.Bits.{length-bits}
 use Rattle.reading.proofs.Spelling.{length-bitsOf, length-packed}
 use Rattle.rfc9639.specs.declared.FrameSetting.{FrameSetting}
@@ -19,7 +19,7 @@ use Rattle.rfc9639.specs.CheckSums.{crc8, crc16}
 use Rattle.rfc9639.specs.Header.{assignment}
 use Rattle.rfc9639.specs.Stereo.{pairwise}
 use Rattle.rfc9639.specs.Frame.{padding}
-use Rattle.rfc9639.specs.Coding.{cost, subframeBits, chosen}
+use Rattle.rfc9639.specs.Coding.{cost, subframeBits}
 use Rattle.rfc9639.specs.Write.{sizeCode, sizeBits, followers, numberBytes, codeBits, fieldBits, headerBits, lanes, laneWidth, midOf, sideOf, channel, stored, laneBits, subframesBits, padded, footed, frameBits, frameBytes, mostBits, frameBound}
 use Rattle.rfc9639.proofs.Choosing.{chosen-at-most-verbatim}
 use Rattle.rfc9639.proofs.Costs.{cost-verbatim}
@@ -55,6 +55,12 @@ size-at-most n =
     let P : List ℕ → Type 0 = λ l. length l ≤ 16 in
     either P (eqb (sizeCode n) 6) (omega arith) (either P (eqb (sizeCode n) 7) (omega arith) (omega arith))
 
+size-whole : (n : ℕ) → length (sizeBits n) ≡ 8 * (length (sizeBits n) / 8)
+unfolding sizeBits bitsOf
+size-whole n =
+    let P : List ℕ → Type 0 = λ l. length l ≡ 8 * (length l / 8) in
+    either P (eqb (sizeCode n) 6) (omega arith) (either P (eqb (sizeCode n) 7) (omega arith) (omega arith))
+
 length-codes : (set : FrameSetting) → length (codeBits set) ≡ 32
 unfolding codeBits bitsOf
 length-codes set = refl
@@ -74,6 +80,13 @@ length-fields set =
 pub length-header : (set : FrameSetting) → length (headerBits set) ≡ length (fieldBits set) + 8
 unfolding headerBits
 length-header set = let fields = fieldBits set in omega (arith, length-append fields (bitsOf 8 (crc8 fields)), length-bitsOf 8 (crc8 fields))
+
+-- whole bytes
+pub fields-whole : (set : FrameSetting) → length (fieldBits set) ≡ 8 * (length (fieldBits set) / 8)
+fields-whole set = omega (arith, length-fields set, size-whole (set .size))
+
+pub header-whole : (set : FrameSetting) → length (headerBits set) ≡ 8 * (length (headerBits set) / 8)
+header-whole set = omega (arith, length-header set, fields-whole set)
 
 pub header-at-most : (set : FrameSetting) → length (headerBits set) ≤ 112
 header-at-most set = omega (arith, length-header set, length-fields set, number-at-most (set .number), size-at-most (set .size))

@@ -7,22 +7,21 @@ use mathlib.Core.List.{List, [], _∷_, map}
 use lib.IntN.{ℤ}
 use lib.ListN.{length, getD, take, length-map}
 use lib.Seq.{getD-take}
-use Rattle.reading.proofs.Spelling.{Bits}
 use Rattle.rfc9639.specs.declared.Candidate.{Candidate}
 use Rattle.rfc9639.specs.declared.ChannelAssignment.{ChannelAssignment}
 use Rattle.rfc9639.specs.declared.Lane.{Lane}
 use Rattle.rfc9639.specs.declared.Lane.the-variants.{Mid}
 use Rattle.rfc9639.specs.Header.{channelCount}
-use Rattle.rfc9639.specs.Coding.{counting, codedAs, chosen, subframeBits}
+use Rattle.rfc9639.specs.Coding.{counting, codedAs, subframeBits}
 use Rattle.rfc9639.specs.Write.{laneOf, lanes, laneWidth, stored, laneBits}
-use Rattle.rfc9639.proofs.Whole.{bits-coded}
+use Rattle.rfc9639.proofs.Whole.{bits-lane}
 use Rattle.choice.specs.declared.Choice.{Choice}
 use Rattle.choice.specs.Choices.{choiceOf}
 use Rattle.output.specs.declared.Pen.{Pen}
 use Rattle.output.specs.Ink.{State, inked}
 use Rattle.coding.specs.Ways.{writtenAs}
 use Rattle.coding.proofs.Pieces.{written-some}
-use Rattle.coding.proofs.Rows.{Unwritten, step, end}
+use Rattle.output.proofs.Rows.{Unwritten, step}
 use Rattle.writer.specs.Plans.{laneChoice}
 use Rattle.writer.proofs.Counting.{width-at-most}
 
@@ -72,10 +71,6 @@ lane-written c b n xs p s {x} {w} {lane} {lane′} h e f g =
     ∙ ap (λ l. inked (codedAs c (laneWidth b l) (stored n xs l)) p s) g
 
 module _ (a : ChannelAssignment) (b n : ℕ) (xs : List ℤ) where
-  lane-bits : (lane : Lane) → Bits (laneBits b n xs lane)
-  unfolding laneBits subframeBits
-  lane-bits lane = bits-coded (chosen (laneWidth b lane) (stored n xs lane)) (laneWidth b lane) (stored n xs lane) .bits
-
   coded-lane : (lane : Lane) → codedAs (laneChoice b n xs lane .candidate) (laneWidth b lane) (stored n xs lane) ≡ laneBits b n xs lane
   unfolding laneChoice choiceOf laneBits subframeBits
   coded-lane lane = refl
@@ -86,5 +81,5 @@ module _ (a : ChannelAssignment) (b n : ℕ) (xs : List ℤ) where
       → _≡_ {A = State} (record { pen = q; bytes = t }) (inked (codedAs (choice .candidate) (laneWidth b (laneOf a c)) (stored n xs (laneOf a c))) p s)
       → Unwritten (laneBits b n xs) (lanes a) p₀ s₀ (c + 1) q t
   lane-next {p₀} {s₀} {c} {p} {s} u h {choice} e f =
-      step u Mid {y = laneOf a c} (omega (arith, length-lanes a)) (sym (lane-at a c Mid h)) (lane-bits (laneOf a c))
+      step u Mid {y = laneOf a c} (omega (arith, length-lanes a)) (sym (lane-at a c Mid h)) (bits-lane b n xs (laneOf a c))
       (f ∙ ap (λ (k : Choice). inked (codedAs (k .candidate) (laneWidth b (laneOf a c)) (stored n xs (laneOf a c))) p s) e ∙ ap (λ l. inked l p s) (coded-lane (laneOf a c)))

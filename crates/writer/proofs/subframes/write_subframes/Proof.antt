@@ -4,7 +4,7 @@ use native.Mathlib.Omega.{arith}
 use borrow.Author.Needs.{needs}
 use Rattle.rfc9639.specs.Header.{assignment}
 use Rattle.rfc9639.specs.Write.{lanes, laneBits, subframesBits}
-use Rattle.coding.proofs.Rows.{Unwritten, begin, end}
+use Rattle.output.proofs.Rows.{Unwritten, begin, end}
 use Rattle.writer.proofs.Laning.{planned-at, lane-next, length-lanes}
 use mathlib.Core.Path.{sym}
 use Rattle.writer.proofs.Allowing.{count-at-most}
