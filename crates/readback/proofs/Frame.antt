@@ -20,11 +20,12 @@ use Rattle.rfc9639.specs.Frame.{opening, widths, padding, footer, body, frame}
 use Rattle.rfc9639.specs.Write.{headerBits, lanes, laneWidth, stored, laneBits, subframesBits, padded, footed, frameBits}
 use Rattle.rfc9639.proofs.Widths.{Fits}
 use Rattle.rfc9639.proofs.CheckSums.{crc16-below}
+use Rattle.rfc9639.proofs.Listing.{width-within, widths-lanes}
 use Rattle.readback.proofs.Spells.{Spells, flat, spells-as, spells-value, spells-by, spells-bits, spells-passed, spells-done, spells-bind, spells-then, spells-last, spells-require, spells-checked, spells-each}
 use Rattle.rfc9639.proofs.Allowed.{Allowed}
 use Rattle.readback.proofs.Header.{headerOf, spells-header}
 use Rattle.readback.proofs.Subframe.{spells-subframe}
-use Rattle.readback.proofs.Lanes.{Held, widths-lanes, width-within, lanes-held, joined-lanes}
+use Rattle.readback.proofs.Lanes.{Held, lanes-held, joined-lanes}
 
 -- what is behind the subframes
 abbrev footerBits : List ℕ → List ℕ

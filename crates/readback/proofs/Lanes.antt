@@ -2,11 +2,11 @@
 use Prim.Native.Nat.{ℕ, zero, suc, _+_, _*_, _≤_, _<_}
 use native.Mathlib.Nat.{mul-le-mul-right, suc-mul, zero-mul}
 use native.Mathlib.Omega.{arith}
-use mathlib.Core.Path.{_≡_, refl, ap, sym, _∙_}
+use mathlib.Core.Path.{_≡_, ap, sym, _∙_}
 use mathlib.Core.List.{List, [], _∷_, _++_, map, append-nil}
 use lib.Dec.{eqb}
 use lib.IntN.{ℤ}
-use lib.ListN.{length, take, drop, replicate, take-append-drop, drop-of-length-le}
+use lib.ListN.{length, take, drop, take-append-drop, drop-of-length-le}
 use lib.Seq.{drop-drop}
 use Rattle.reading.proofs.Holding.{Every, every-take, every-drop, every-map}
 use Rattle.rfc9639.specs.declared.ChannelAssignment.{ChannelAssignment}
@@ -15,38 +15,15 @@ use Rattle.rfc9639.specs.declared.Lane.{Lane}
 use Rattle.rfc9639.specs.declared.Lane.the-variants.{Channel, Mid, Side}
 use Rattle.rfc9639.specs.Header.{channelCount}
 use Rattle.rfc9639.specs.Stereo.{joined}
-use Rattle.rfc9639.specs.Frame.{widths}
 use Rattle.rfc9639.specs.Coding.{counting}
 use Rattle.rfc9639.specs.Write.{laneOf, lanes, laneWidth, midOf, sideOf, channel, stored}
 use Rattle.rfc9639.proofs.Widths.{Fits}
 use Rattle.rfc9639.proofs.Lengths.{length-channel}
-use Rattle.rfc9639.proofs.Choosing.{counted}
+use Rattle.rfc9639.proofs.Listing.{counted}
 use Rattle.readback.proofs.Tests.{by-test}
 use Rattle.readback.proofs.Spells.{flat}
 use Rattle.readback.proofs.Stereo.{side-fits, mid-fits}
 use Rattle.readback.proofs.Pairs.{Pair, length-pairs, every-pair, joined-left-side, joined-side-right, joined-mid-side}
-
--- ---- the widths are those of the lanes
-
-widths-independent : (k b a n : ℕ) → replicate n b ≡ map (laneWidth b) (map (laneOf (Independent k)) (counting a n))
-unfolding laneWidth laneOf counting
-widths-independent k b a zero = refl
-widths-independent k b a (suc n) = ap (λ ws. b ∷ ws) (widths-independent k b (suc a) n)
-
-pub widths-lanes : (a : ChannelAssignment) (b : ℕ) → widths a b ≡ map (laneWidth b) (lanes a)
-unfolding widths lanes channelCount laneWidth laneOf counting
-widths-lanes (Independent k) b = widths-independent k b 0 k
-widths-lanes LeftSide b = refl
-widths-lanes SideRight b = refl
-widths-lanes MidSide b = refl
-
-pub width-within : (b : ℕ) (lane : Lane) → (b ≤ laneWidth b lane) × (laneWidth b lane ≤ b + 1)
-unfolding laneWidth
-width-within b (Channel c) = omega arith
-width-within b Mid = omega arith
-width-within b Side = omega arith
-
--- ---- the lanes of a frame
 
 -- n samples that fit the lane's width
 pub record Held (b n : ℕ) (xs : List ℤ) (lane : Lane) : Type 0 where

@@ -28,14 +28,6 @@ count-of-pair code h = rw (le-ltb _ _ h) (go (eqb code 8) (eqb code 9))
     go false true = refl
     go false false = refl
 
-pub count-at-most : (code : ℕ) → code ≤ 10 → channelCount (assignment code) ≤ 8
-unfolding assignment channelCount
-count-at-most code h = go (ltb code 8) refl
-  where
-    go : (b : Bool) → ltb code 8 ≡ b → channelCount (assignment code) ≤ 8
-    go true e = rw e (let l = ltb-true code 8 e in omega arith)
-    go false e = let p = count-of-pair code (ltb-false code 8 e) in omega (arith, p)
-
 -- what is not 0 is above it
 pub some : {n : ℕ} → (n ≡ 0 → ⊥) → ltb 0 n ≡ true
 some {n} h = lt-ltb 0 n (go n h)
