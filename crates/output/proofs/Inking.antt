@@ -4,7 +4,7 @@ use Prim.Native.Nat.{ℕ, zero, suc, _+_, _*_, _^_, _≤_, _<_}
 use native.Mathlib.Nat.{add-zero, zero-add}
 use native.Mathlib.Numerals.{add-one}
 use native.Mathlib.Omega.{arith}
-use mathlib.Core.Path.{_≡_, refl, ap, ap₂, sym, _∙_}
+use mathlib.Core.Path.{_≡_, refl, ap, ap₂, sym, _∙_, subst}
 use mathlib.Core.Bool.{Bool, true, false, cond, _&&_}
 use mathlib.Core.List.{List, [], _∷_, _++_}
 use lib.Dec.{ltb}
@@ -152,6 +152,9 @@ inked-is bs p s g = rw (good-pen p g)
 pub inked-none : (bs : List ℕ) (p : Pen) (s : List ℕ) → isPen p ≡ false → inked bs p s ≡ record { pen = p; bytes = s }
 unfolding inked
 inked-none bs p s e = rw e
+
+pub inked-good : (bs : List ℕ) (p : Pen) (s : List ℕ) {q : Pen} {t : List ℕ} → Bits bs → Good p → _≡_ {A = State} (record { pen = q; bytes = t }) (inked bs p s) → Good q
+inked-good bs p s h g e = subst Good (sym (ap (λ (x : State). x .pen) (e ∙ inked-is bs p s g))) (ink-good bs p s h g)
 
 pub inked-nothing : (p : Pen) (s : List ℕ) → inked [] p s ≡ record { pen = p; bytes = s }
 unfolding inked ink

@@ -3,13 +3,13 @@ use Prim.Native.Nat.{ℕ, zero, suc, _+_, _-_, _*_, _/_, _%_, _≤_}
 use native.Mathlib.Nat.{mul-le-mul-right}
 use native.Mathlib.Omega.{arith}
 use mathlib.Core.Path.{_≡_, refl, ap, _∙_}
-use mathlib.Core.Bool.{Bool, true, false, cond}
 use mathlib.Core.List.{List, [], _∷_, _++_}
 use lib.Dec.{ltb, eqb}
 use lib.IntN.{ℤ}
 use lib.ListN.{length, replicate, length-append, length-replicate}
 use Rattle.reading.specs.Bytes.{bitsOfBytes}
 use Rattle.reading.specs.Spelling.{bitsOf, row}
+use Rattle.reading.proofs.Tests.{by-test}
 use Rattle.reading.proofs.Bits.{length-bits}
 use Rattle.reading.proofs.Spelling.{length-bitsOf, length-packed}
 use Rattle.rfc9639.specs.declared.FrameSetting.{FrameSetting}
@@ -32,33 +32,23 @@ unfolding followers
 length-followers zero v = refl
 length-followers (suc n) v = ap suc (length-followers n v)
 
--- either of two
-pub either : {A : Type 0} (P : A → Type 0) (b : Bool) {x y : A} → P x → P y → P (cond b x y)
-either P true p q = p
-either P false p q = q
-
 pub number-at-most : (v : ℕ) → length (numberBytes v) ≤ 7
 unfolding numberBytes followers
 number-at-most v =
     let P : List ℕ → Type 0 = λ l. length l ≤ 7 in
-    either P (ltb v 0x80) (omega arith)
-    (either P (ltb v 0x800) (omega arith)
-    (either P (ltb v 0x1_0000) (omega arith)
-    (either P (ltb v 0x20_0000) (omega arith)
-    (either P (ltb v 0x400_0000) (omega arith)
-    (either P (ltb v 0x8000_0000) (omega arith) (omega arith))))))
+    by-test P (ltb v 0x80) _ _ (λ _. omega arith)
+    (λ _. by-test P (ltb v 0x800) _ _ (λ _. omega arith)
+    (λ _. by-test P (ltb v 0x1_0000) _ _ (λ _. omega arith)
+    (λ _. by-test P (ltb v 0x20_0000) _ _ (λ _. omega arith)
+    (λ _. by-test P (ltb v 0x400_0000) _ _ (λ _. omega arith)
+    (λ _. by-test P (ltb v 0x8000_0000) _ _ (λ _. omega arith) (λ _. omega arith))))))
 
-size-at-most : (n : ℕ) → length (sizeBits n) ≤ 16
+-- no bytes, one or two
+size-bytes : (n : ℕ) → (length (sizeBits n) ≡ 8 * (length (sizeBits n) / 8)) × (length (sizeBits n) ≤ 16)
 unfolding sizeBits bitsOf
-size-at-most n =
-    let P : List ℕ → Type 0 = λ l. length l ≤ 16 in
-    either P (eqb (sizeCode n) 6) (omega arith) (either P (eqb (sizeCode n) 7) (omega arith) (omega arith))
-
-size-whole : (n : ℕ) → length (sizeBits n) ≡ 8 * (length (sizeBits n) / 8)
-unfolding sizeBits bitsOf
-size-whole n =
-    let P : List ℕ → Type 0 = λ l. length l ≡ 8 * (length l / 8) in
-    either P (eqb (sizeCode n) 6) (omega arith) (either P (eqb (sizeCode n) 7) (omega arith) (omega arith))
+size-bytes n =
+    let P : List ℕ → Type 0 = λ l. (length l ≡ 8 * (length l / 8)) × (length l ≤ 16) in
+    by-test P (eqb (sizeCode n) 6) _ _ (λ _. omega arith) (λ _. by-test P (eqb (sizeCode n) 7) _ _ (λ _. omega arith) (λ _. omega arith))
 
 length-codes : (set : FrameSetting) → length (codeBits set) ≡ 32
 unfolding codeBits bitsOf
@@ -82,13 +72,13 @@ length-header set = let fields = fieldBits set in omega (arith, length-append fi
 
 -- whole bytes
 pub fields-whole : (set : FrameSetting) → length (fieldBits set) ≡ 8 * (length (fieldBits set) / 8)
-fields-whole set = omega (arith, length-fields set, size-whole (set .size))
+fields-whole set = omega (arith, length-fields set, size-bytes (set .size))
 
 pub header-whole : (set : FrameSetting) → length (headerBits set) ≡ 8 * (length (headerBits set) / 8)
 header-whole set = omega (arith, length-header set, fields-whole set)
 
 pub header-at-most : (set : FrameSetting) → length (headerBits set) ≤ 112
-header-at-most set = omega (arith, length-header set, length-fields set, number-at-most (set .number), size-at-most (set .size))
+header-at-most set = omega (arith, length-header set, length-fields set, number-at-most (set .number), size-bytes (set .size))
 
 -- ---- the subframes
 

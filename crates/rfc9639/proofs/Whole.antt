@@ -2,13 +2,13 @@
 use Prim.Native.Nat.{ℕ, _+_, _-_, _*_, _/_, _^_}
 use native.Mathlib.Omega.{arith}
 use mathlib.Core.Path.{_≡_}
-use mathlib.Core.Bool.{Bool, true, false, cond}
-use mathlib.Core.List.{List, [], _++_}
+use mathlib.Core.List.{List, _++_}
 use lib.Dec.{eqb}
 use lib.IntN.{ℤ}
 use lib.ListN.{length, take, length-append}
 use Rattle.reading.specs.Bytes.{bitsOfBytes}
 use Rattle.reading.specs.Spelling.{bitsOf, unary, packed}
+use Rattle.reading.proofs.Tests.{by-test}
 use Rattle.reading.proofs.Bits.{byte-bits}
 use Rattle.reading.proofs.Spelling.{Binary, number, both, bits-replicate, bits-bitsOf, bits-unary, bits-row, length-bitsOf, length-packed, bits-of-packed}
 use Rattle.rfc9639.specs.declared.Candidate.{Candidate}
@@ -33,12 +33,9 @@ bits-codes set =
 
 pub bits-size : (n : ℕ) → Binary (sizeBits n)
 unfolding sizeBits
-bits-size n = go (eqb (sizeCode n) 6) (eqb (sizeCode n) 7)
-  where
-    go : (a b : Bool) → Binary (cond a (bitsOf 8 (n - 1)) (cond b (bitsOf 16 (n - 1)) []))
-    go true b = number 8 (n - 1)
-    go false true = number 16 (n - 1)
-    go false false = record { bits = tt }
+bits-size n =
+    by-test Binary (eqb (sizeCode n) 6) _ _ (λ _. number 8 (n - 1))
+    (λ _. by-test Binary (eqb (sizeCode n) 7) _ _ (λ _. number 16 (n - 1)) (λ _. record { bits = tt }))
 
 pub bits-number : (v : ℕ) → Binary (bitsOfBytes (numberBytes v))
 bits-number v = record { bits = byte-bits (numberBytes v) }
@@ -85,12 +82,14 @@ bits-subframes set xs = record { bits = bits-row _ (lanes (assignment (set .chan
 
 -- ---- the frame
 
+pub bits-padded : {s : List ℕ} → Binary s → Binary (padded s)
+unfolding padded
+bits-padded {s} h = both h (record { bits = bits-replicate (padding (length s)) 0 (omega arith) })
+
 module _ (set : FrameSetting) (xs : List ℤ) where
   bits-frame : Binary (frameBits set xs)
-  unfolding frameBits footed padded
-  bits-frame =
-      let s = headerBits set ++ subframesBits set xs in
-      both (both (both (bits-header set) (bits-subframes set xs)) (record { bits = bits-replicate (padding (length s)) 0 (omega arith) })) (number 16 (crc16 (padded s)))
+  unfolding frameBits footed
+  bits-frame = both (bits-padded (both (bits-header set) (bits-subframes set xs))) (number 16 (crc16 (padded (headerBits set ++ subframesBits set xs))))
 
   pub length-frameBits : length (frameBits set xs) ≡ 8 * length (frameBytes set xs)
   unfolding frameBits frameBytes footed

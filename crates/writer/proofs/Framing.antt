@@ -6,19 +6,19 @@ use mathlib.Core.List.{List, _++_}
 use lib.IntN.{ℤ}
 use lib.ListN.{length, drop, length-append}
 use Rattle.reading.specs.Spelling.{bytesOf, packed}
-use Rattle.reading.proofs.Spelling.{Bits, both}
+use Rattle.reading.proofs.Spelling.{Binary, both}
 use Rattle.rfc9639.specs.declared.FrameSetting.{FrameSetting}
 use Rattle.rfc9639.specs.Write.{headerBits, subframesBits, frameBits, frameBytes}
 use Rattle.rfc9639.proofs.Bound.{length-frame, header-whole}
 use Rattle.rfc9639.proofs.Whole.{bits-header, bits-subframes, length-frameBits}
 use Rattle.output.specs.declared.Pen.{Pen}
 use Rattle.output.specs.Ink.{State, inked, fresh}
-use Rattle.output.proofs.Inking.{Good, inked-whole}
+use Rattle.output.proofs.Inking.{Good, fresh-good, inked-good, inked-whole}
 use Rattle.output.proofs.Chaining.{first, inked-then}
 use Rattle.heading.specs.Heads.{headed}
 use Rattle.heading.proofs.Heading.{headed-is}
 use Rattle.writer.specs.Footing.{filled, summed}
-use Rattle.writer.proofs.Footed.{pen-good, pen-within, footed-is}
+use Rattle.writer.proofs.Footed.{pen-within, footed-is}
 
 -- how long it is
 pub length-is : (set : FrameSetting) (xs : List ℤ) {bits : ℕ} → bits ≡ length (subframesBits set xs)
@@ -29,9 +29,9 @@ module _ (set : FrameSetting) (xs : List ℤ) (s : List ℕ) (room : length (fra
   coded : List ℕ
   coded = headerBits set ++ subframesBits set xs
 
-  coded-bits : Bits coded
+  coded-bits : Binary coded
   unfolding coded
-  coded-bits = both (bits-header set) (bits-subframes set xs) .bits
+  coded-bits = both (bits-header set) (bits-subframes set xs)
 
   coded-room : (length coded + 7) / 8 + 2 ≤ length s
   unfolding coded
@@ -45,7 +45,7 @@ module _ (set : FrameSetting) (xs : List ℤ) (s : List ℕ) (room : length (fra
         inked-then (first (bits-header set) (e ∙ headed-is set s (omega (arith, length-frame set xs, length-append (headerBits set) (subframesBits set xs))))) (subframesBits set xs) f
 
     pub begun-good : Good p
-    begun-good = pen-good coded s coded-bits coded-room so-far
+    begun-good = inked-good coded fresh s (coded-bits .bits) fresh-good so-far
 
     pub begun-within : p .byte < length u
     begun-within = pen-within coded s coded-bits coded-room so-far
