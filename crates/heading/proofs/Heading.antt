@@ -1,14 +1,13 @@
 -- What the writing of a frame's header comes to, where there is room and where there is none. Assumes nothing.
 use Prim.Native.Nat.{ℕ, _*_, _/_, _≤_, _<_}
 use native.Mathlib.Omega.{arith}
-use mathlib.Core.Path.{_≡_, ap, ap₂, sym, _∙_}
-use mathlib.Core.List.{List, _++_}
+use mathlib.Core.Path.{_≡_, ap, sym, _∙_}
+use mathlib.Core.List.{List}
 use borrow.Author.Tests.{le-leb, lt-leb}
-use lib.ListN.{length, take, drop, length-append}
-use lib.Seq.{take-at}
+use lib.ListN.{length, take}
 use Rattle.reading.specs.Bytes.{bitsOfBytes}
-use Rattle.reading.specs.Spelling.{bitsOf, bytesOf}
-use Rattle.reading.proofs.Spelling.{Binary, number, both, length-bytesOf, bits-of-packed}
+use Rattle.reading.specs.Spelling.{bitsOf}
+use Rattle.reading.proofs.Spelling.{Binary, number, both}
 use Rattle.rfc9639.specs.declared.FrameSetting.{FrameSetting}
 use Rattle.rfc9639.specs.CheckSums.{crc8}
 use Rattle.rfc9639.specs.Write.{sizeCode, fieldBits, headerBits}
@@ -16,7 +15,7 @@ use Rattle.rfc9639.proofs.Bound.{length-header, fields-whole}
 use Rattle.rfc9639.proofs.Whole.{bits-fields}
 use Rattle.output.specs.declared.Pen.{Pen}
 use Rattle.output.specs.Ink.{State, inked, fresh}
-use Rattle.output.proofs.Inking.{inked-whole}
+use Rattle.output.proofs.Inking.{inked-length, inked-whole, inked-before}
 use Rattle.output.proofs.Chaining.{first, inked-then}
 use Rattle.heading.specs.Heads.{headed, threeBits}
 
@@ -42,27 +41,19 @@ module _ (set : FrameSetting) where
     -- ---- the check sum
 
     module _ {p : Pen} {t : List ℕ} (room : length (headerBits set) ≤ 8 * length s) (e : _≡_ {A = State} (record { pen = p; bytes = t }) (inked (fieldBits set) fresh s)) where
-      is : _≡_ {A = State} (record { pen = p; bytes = t }) (record { pen = record { byte = fieldBytes set; held = 0; bits = 0 }; bytes = bytesOf (fieldBytes set) (fieldBits set) ++ drop (fieldBytes set) s })
-      is = e ∙ inked-whole (fieldBits set) s (fieldBytes set) (fields-whole set) (omega (arith, fields-whole set, length-header set))
-
-      at : p .byte ≡ fieldBytes set
-      at = ap (λ x. x .pen .byte) is
+      few : fieldBytes set ≤ length s
+      few = omega (arith, fields-whole set, length-header set)
 
       -- the pen stands behind the fields
       pub pen-within : p .byte ≤ length t
-      pen-within = omega (arith, at, ap (λ x. length (x .bytes)) is, length-append (bytesOf (fieldBytes set) (fieldBits set)) (drop (fieldBytes set) s), length-bytesOf (fieldBytes set) (fieldBits set))
-
-      -- and the bytes before it are theirs
-      bytes-before : bitsOfBytes (take (p .byte) t) ≡ fieldBits set
-      bytes-before =
-          ap₂ (λ k x. bitsOfBytes (take k x)) at (ap (λ x. x .bytes) is)
-          ∙ ap bitsOfBytes (take-at (bytesOf (fieldBytes set) (fieldBits set)) (drop (fieldBytes set) s) (fieldBytes set) (length-bytesOf (fieldBytes set) (fieldBits set)))
-          ∙ bits-of-packed (fieldBytes set) (fieldBits set) (bits-fields set .bits) (fields-whole set)
+      pen-within =
+          let at : p .byte ≡ fieldBytes set = ap (λ x. x .pen .byte) (e ∙ inked-whole (fieldBits set) s (fieldBytes set) (fields-whole set) few) in
+          omega (arith, at, few, ap (λ x. length (x .bytes)) e, inked-length (fieldBits set) fresh s)
 
       -- so their sum behind them makes the header
       pub summed : {x : ℕ} {q : Pen} {u : List ℕ} → x ≡ crc8 (bitsOfBytes (take (p .byte) t)) → _≡_ {A = State} (record { pen = q; bytes = u }) (inked (bitsOf 8 x) p t)
           → _≡_ {A = State} (record { pen = q; bytes = u }) (headed set s)
       unfolding headerBits
       summed h f =
-          let k : _ ≡ crc8 (fieldBits set) = h ∙ ap crc8 bytes-before in
+          let k : _ ≡ crc8 (fieldBits set) = h ∙ ap crc8 (inked-before (fieldBits set) s (fieldBytes set) (bits-fields set .bits) (fields-whole set) few e) in
           inked-then (first (bits-fields set) e) (bitsOf 8 (crc8 (fieldBits set))) (rw k at f) ∙ sym (headed-is room)

@@ -9,10 +9,11 @@ use mathlib.Core.Bool.{Bool, true, false, cond, _&&_}
 use mathlib.Core.List.{List, [], _∷_, _++_}
 use lib.Dec.{ltb}
 use lib.ListN.{length, take, drop, set, length-set, length-append, length-drop, take-append-drop}
-use lib.Seq.{sets, sets-eq, length-take-le}
+use lib.Seq.{sets, sets-eq, take-at, length-take-le}
 use borrow.Author.Tests.{lt-ltb, le-ltb, ltb-true, ltb-false}
+use Rattle.reading.specs.Bytes.{bitsOfBytes}
 use Rattle.reading.specs.Spelling.{spelt, bytesOf}
-use Rattle.reading.proofs.Spelling.{Bits, length-bytesOf}
+use Rattle.reading.proofs.Spelling.{Bits, length-bytesOf, bits-of-packed}
 use Rattle.output.specs.declared.Pen.{Pen}
 use Rattle.output.specs.Ink.{State, inkBit, ink, isPen, inked, fresh}
 
@@ -199,6 +200,13 @@ inked-whole bs s m e l =
     inked-is bs fresh s fresh-good ∙ ink-bytes m bs 0 s e (omega arith)
     ∙ ap₂ (λ (i : ℕ) (t : List ℕ). record { pen = record { byte = i; held = 0; bits = 0 }; bytes = t }) (zero-add m)
     (sets-eq (bytesOf m bs) s 0 (omega (arith, length-bytesOf m bs)) ∙ ap (λ (i : ℕ). bytesOf m bs ++ drop i s) (zero-add (length (bytesOf m bs)) ∙ length-bytesOf m bs))
+
+-- the bytes before the pen then have just these bits
+pub inked-before : (bs s : List ℕ) (m : ℕ) → Bits bs → length bs ≡ 8 * m → m ≤ length s → {p : Pen} {t : List ℕ}
+    → _≡_ {A = State} (record { pen = p; bytes = t }) (inked bs fresh s) → bitsOfBytes (take (p .byte) t) ≡ bs
+inked-before bs s m b e l w =
+    ap (λ (x : State). bitsOfBytes (take (x .pen .byte) (x .bytes))) (w ∙ inked-whole bs s m e l)
+    ∙ ap bitsOfBytes (take-at (bytesOf m bs) (drop m s) m (length-bytesOf m bs)) ∙ bits-of-packed m bs b e
 
 -- and fewer than eight bits more, which the pen holds
 pub inked-part : (bs cs s : List ℕ) (m : ℕ) → length bs ≡ 8 * m → length cs < 8 → m < length s

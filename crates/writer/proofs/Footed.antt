@@ -4,10 +4,10 @@ use native.Mathlib.Omega.{arith}
 use mathlib.Core.Path.{_≡_, refl, ap, sym, _∙_}
 use mathlib.Core.List.{List, [], _++_}
 use lib.ListN.{length, take, drop, length-drop, take-append-drop}
-use lib.Seq.{take-at, length-take-le}
+use lib.Seq.{length-take-le}
 use Rattle.reading.specs.Bytes.{bitsOfBytes}
 use Rattle.reading.specs.Spelling.{bitsOf, bytesOf, spelt}
-use Rattle.reading.proofs.Spelling.{Binary, bitsOf-zero, length-bitsOf, length-bytesOf, bits-of-packed}
+use Rattle.reading.proofs.Spelling.{Binary, bitsOf-zero, length-bitsOf}
 use Rattle.rfc9639.specs.CheckSums.{crc16}
 use Rattle.rfc9639.specs.Frame.{padding}
 use Rattle.rfc9639.specs.Write.{padded, footed}
@@ -15,7 +15,7 @@ use Rattle.rfc9639.proofs.Bound.{length-padded}
 use Rattle.rfc9639.proofs.Whole.{bits-padded}
 use Rattle.output.specs.declared.Pen.{Pen}
 use Rattle.output.specs.Ink.{State, ink, inked, fresh}
-use Rattle.output.proofs.Inking.{Good, ink-byte, inked-is, inked-length, inked-append, inked-whole, inked-part}
+use Rattle.output.proofs.Inking.{Good, ink-byte, inked-is, inked-length, inked-append, inked-before, inked-part}
 use Rattle.writer.specs.Footing.{filled, summed}
 
 -- where the pen stands once the byte begun is filled
@@ -62,15 +62,9 @@ module _ (bs s : List ℕ) (b : Binary bs) (room : (length bs + 7) / 8 + 2 ≤ l
       let l : length t ≡ length s = ap (λ (st : State). length (st .bytes)) e ∙ inked-length bs fresh s in
       omega (arith, k, l)
 
-  n : ℕ
-  n = (length bs + 7) / 8
-
   -- the bytes before the sum are the padded bits
   before : bitsOfBytes (take (inked (padded bs) fresh s .pen .byte) (inked (padded bs) fresh s .bytes)) ≡ padded bs
-  unfolding n
-  before =
-      ap (λ (st : State). bitsOfBytes (take (st .pen .byte) (st .bytes))) (inked-whole (padded bs) s n (length-padded bs) (omega arith))
-      ∙ ap bitsOfBytes (take-at (bytesOf n (padded bs)) (drop n s) n (length-bytesOf n (padded bs))) ∙ bits-of-packed n (padded bs) (bits-padded b .bits) (length-padded bs)
+  before = inked-before (padded bs) s ((length bs + 7) / 8) (bits-padded b .bits) (length-padded bs) (omega arith) refl
 
   module _ {p : Pen} {t : List ℕ} (e : _≡_ {A = State} (record { pen = p; bytes = t }) (inked bs fresh s)) where
     held : p .held ≡ length bs % 8
