@@ -1,4 +1,4 @@
--- How many bits each candidate has, and the whole frame at most. Assumes nothing.
+-- How many bits each candidate has. Assumes nothing.
 use Prim.Native.Nat.{ℕ, suc, _+_, _*_, _/_, _^_, _≤_}
 use native.Mathlib.Nat.{zero-mul, suc-mul}
 use native.Mathlib.Omega.{arith}
