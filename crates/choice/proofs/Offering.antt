@@ -4,8 +4,8 @@ use native.Mathlib.Numerals.{add-one}
 use native.Mathlib.Omega.{arith}
 use mathlib.Core.Path.{_≡_, refl, ap, sym, _∙_}
 use mathlib.Core.List.{List, [], _∷_}
-use lib.ListN.{length, getD, drop}
-use lib.Seq.{drop-cons, drop-length}
+use lib.ListN.{length, getD, drop, drop-of-length-le}
+use lib.Seq.{drop-cons}
 use Rattle.rfc9639.specs.declared.Candidate.the-variants.{Fixed}
 use Rattle.rfc9639.specs.Coding.{fewestOf}
 use Rattle.choice.specs.declared.Choice.{Choice}
@@ -34,7 +34,4 @@ module _ {order head count : ℕ} {qs : List ℕ} {best₀ best : Choice} {k : �
   pub end : length qs ≤ k → best ≡ fewestOf weight best₀ (offers order head count 0 qs)
   unfolding offers fewestOf
   end h =
-      sym (inv .same ∙ ap (λ (r : List ℕ). fewestOf weight best (offers order head count k r)) none)
-    where
-      none : drop k qs ≡ []
-      none = ap (λ n. drop n qs) (let e : k ≡ length qs = omega (arith, inv .within) in e) ∙ drop-length qs
+      sym (inv .same ∙ ap (λ (r : List ℕ). fewestOf weight best (offers order head count k r)) (drop-of-length-le qs h))

@@ -6,9 +6,9 @@ use native.Mathlib.Omega.{arith}
 use mathlib.Core.Path.{_≡_, refl, ap, ap₂, sym, _∙_}
 use mathlib.Core.List.{List, [], _∷_, _++_, map, append-nil}
 use lib.IntN.{ℤ, pos, natAbs}
-use lib.ListN.{length, getD, take, drop, set, replicate, length-set}
+use lib.ListN.{length, getD, take, drop, set, replicate, length-set, drop-of-length-le}
 use lib.Pow.{shr-le}
-use lib.Seq.{take-suc, take-suc-set, drop-cons, drop-set-lt, getD-set-other, append-snoc, take-all, drop-length}
+use lib.Seq.{take-suc, take-suc-set, drop-cons, drop-set-lt, getD-set-other, append-snoc, take-all}
 use Rattle.rfc9639.specs.Coding.{fold, counting}
 use Rattle.lanes.proofs.Missing.{fold-lt}
 use Rattle.choice.specs.Tallies.{sumBy, sumsOf, joined, Under}
@@ -48,10 +48,7 @@ module _ {f : ℕ} {qs₀ qs : List ℕ} {k : ℕ} (inv : Joining f qs₀ qs k) 
   pub end : length qs ≤ k → qs ≡ joined f 0 qs₀
   unfolding joined
   end h =
-      sym (inv .same ∙ ap₂ (λ (t r : List ℕ). t ++ joined f k r) (take-all k qs h) none ∙ append-nil qs)
-    where
-      none : drop k qs ≡ []
-      none = ap (λ n. drop n qs) (let e : k ≡ length qs = omega (arith, inv .within) in e) ∙ drop-length qs
+      sym (inv .same ∙ ap₂ (λ (t r : List ℕ). t ++ joined f k r) (take-all k qs h) (drop-of-length-le qs h) ∙ append-nil qs)
 
 -- ---- residual by residual
 

@@ -1,4 +1,3 @@
 -- Laws of what is written, for the functions that write it.
-pub mod Rows
 pub mod Pieces
 pub mod Outcome

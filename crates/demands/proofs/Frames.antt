@@ -3,18 +3,18 @@ use Prim.Native.Nat.{ℕ, zero, suc, _+_, _*_, _%_, _^_, _≤_, _<_}
 use native.Mathlib.Nat.{pow-suc, mul-assoc, mul-comm, mul-le-mul, lt-of-lt-of-le, lt-of-le-of-lt, mul-le-mul-right, mul-one}
 use native.Mathlib.Omega.{arith}
 use mathlib.Core.Path.{_≡_, refl}
-use mathlib.Core.Bool.{Bool, true, false, cond, _||_}
+use mathlib.Core.Bool.{Bool, true, false, _||_}
 use borrow.Author.Tests.{ltb-true, leb-true, eqb-true}
 use lib.Dec.{leb, ltb, eqb}
 use lib.Pow.{pow-mono, pow-pos}
-use Rattle.reading.specs.Reading.{_>>=_, bits}
+use Rattle.reading.specs.Reading.{bits}
 use Rattle.reading.proofs.Holding.{Holds, value, refusal, holds-bind, holds-weaken, holds-bits, holds-passed, holds-require, holds-if}
 use Rattle.rfc9639.specs.declared.BlockTime.{BlockTime}
-use Rattle.rfc9639.specs.declared.ChannelAssignment.the-variants.{Independent, LeftSide, SideRight, MidSide}
 use Rattle.rfc9639.specs.declared.Codes.{Codes}
 use Rattle.rfc9639.specs.declared.FrameHeader.{FrameHeader}
 use Rattle.rfc9639.specs.Number.{followed, numberFrom, codedNumber}
-use Rattle.rfc9639.specs.Header.{assignment, bitDepth, blockSize, rateBits, timeOf, sync, sizeAndRate, depthAndZero, channelsAndBits, codes, blockTime, headerSum, headerBehind, header, channelCount, firstSample}
+use Rattle.rfc9639.specs.Header.{bitDepth, blockSize, rateBits, timeOf, sync, sizeAndRate, depthAndZero, channelsAndBits, codes, blockTime, headerSum, headerBehind, header, channelCount, firstSample}
+use Rattle.rfc9639.proofs.Listing.{channels-between}
 
 -- the refusals of document 01 that a frame can have
 abbrev pub Listed : ℕ → Type 0
@@ -79,18 +79,6 @@ size-holds code h =
     (λ v _. holds-bind _ (holds-require (ltb v 65535) 4 (omega arith)) (λ _ e. value {a = v + 1} (omega (arith, ltb-true v 65535 e)))))
     (λ _. value {a = 2 ^ code} (omega (arith, pow-mono {i = code} {j = 15} (omega arith), pow-pos code))))))
 
-assigned : (code : ℕ) → (1 ≤ channelCount (assignment code)) × (channelCount (assignment code) ≤ 8)
-unfolding assignment channelCount
-assigned code = go (ltb code 8) refl (eqb code 8) (eqb code 9)
-  where
-    go : (a : Bool) → ltb code 8 ≡ a → (b c : Bool)
-        → (1 ≤ channelCount (cond a (Independent (code + 1)) (cond b LeftSide (cond c SideRight MidSide))))
-        × (channelCount (cond a (Independent (code + 1)) (cond b LeftSide (cond c SideRight MidSide))) ≤ 8)
-    go true e b c = let l = ltb-true code 8 e in (omega arith, omega arith)
-    go false e true c = (omega arith, omega arith)
-    go false e false true = (omega arith, omega arith)
-    go false e false false = (omega arith, omega arith)
-
 or-false : (a b : Bool) → (a || b) ≡ true → a ≡ false → b ≡ true
 or-false true b e f = absurd (let z : _≡_ {A = ℕ} 0 1 = cc in omega arith)
 or-false false b e f = e
@@ -131,7 +119,7 @@ unfolding channelsAndBits
 fourth-holds =
     holds-bind _ (holds-bits 4)
     (λ channels _. holds-bind _ (holds-require _ 4 (omega arith))
-    (λ _ _. holds-bind _ zero-holds (λ n deep. value (assigned channels .0, assigned channels .1, deep))))
+    (λ _ _. holds-bind _ zero-holds (λ n deep. value (channels-between channels .0, channels-between channels .1, deep))))
 
 -- codes that a header can have
 pub record Coded (c : Codes) : Type 0 where

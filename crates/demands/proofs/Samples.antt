@@ -9,7 +9,7 @@ use lib.Dec.{leb, ltb, eqb}
 use lib.IntN.{ℤ, _+ℤ_, _-ℤ_}
 use lib.ListN.{length, take, drop, replicate, length-append, length-map, length-replicate, length-take, length-drop}
 use lib.Pow.{suc-ones}
-use Rattle.reading.specs.Reading.{Ask, _>>=_, bits, many}
+use Rattle.reading.specs.Reading.{Ask, bits, many}
 use Rattle.reading.proofs.Holding.{Holds, value, refusal, holds-bind, holds-weaken, holds-bits, holds-zeros, holds-passed, holds-require, holds-if, Every, every-append, every-take, every-drop, Sized, total, holds-many, holds-each}
 use Rattle.rfc9639.specs.declared.ChannelAssignment.{ChannelAssignment}
 use Rattle.rfc9639.specs.declared.ChannelAssignment.the-variants.{Independent, LeftSide, SideRight, MidSide}

@@ -4,7 +4,7 @@ use Prim.Native.Nat.{ℕ, zero, suc, _+_, _-_, _*_, _/_, _^_, _≤_, _<_}
 use native.Mathlib.Numerals.{add-one}
 use native.Mathlib.Omega.{arith}
 use mathlib.Core.Path.{_≡_, refl, ap, ap₂, sym, _∙_}
-use mathlib.Core.List.{List, [], _∷_, _++_, append-nil}
+use mathlib.Core.List.{List, _∷_, _++_, append-nil}
 use borrow.Author.Tests.{le-ltb}
 use lib.IntN.{ℤ, pos, negsuc, negℤ-negℤ, _+ℤ_, _-ℤ_, _*ℤ_}
 use lib.ListN.{length, getD, take, drop, set, length-set, length-drop, take-append-drop}
@@ -16,6 +16,7 @@ use Rattle.rfc9639.specs.declared.ChannelAssignment.the-variants.{LeftSide, Sid
 use Rattle.rfc9639.specs.Integers.{low, wrapped, shiftDown}
 use Rattle.rfc9639.specs.Stereo.{doubled, leftOf, rightOf, leftOfMid, rightOfMid, pairwise, joined}
 use Rattle.rfc9639.proofs.Widths.{of-sfits, to-sfits, fits-mono, fits-mul, low-lt, shiftDown-fits, wrapped-same}
+use Rattle.rfc9639.proofs.Listing.{pairwise-first, pairwise-second}
 use Rattle.number.proofs.Machine.{widened}
 use Rattle.number.proofs.Sizes.{sfits-of-abs, abs-of-fits, abs-mul, add-fits}
 
@@ -26,19 +27,6 @@ first x y = x
 
 abbrev pub second : ℤ → ℤ → ℤ
 second x y = y
-
-pairwise-first : (xs ys : List ℤ) → length xs ≤ length ys → pairwise first xs ys ≡ xs
-unfolding pairwise
-pairwise-first [] ys h = refl
-pairwise-first (x ∷ xs) [] h = absurd (omega arith)
-pairwise-first (x ∷ xs) (y ∷ ys) h = ap (λ (l : List ℤ). x ∷ l) (pairwise-first xs ys (omega arith))
-
-pairwise-second : (xs ys : List ℤ) → length ys ≤ length xs → pairwise second xs ys ≡ ys
-unfolding pairwise
-pairwise-second [] [] h = refl
-pairwise-second [] (y ∷ ys) h = absurd (omega arith)
-pairwise-second (x ∷ xs) [] h = refl
-pairwise-second (x ∷ xs) (y ∷ ys) h = ap (λ (l : List ℤ). y ∷ l) (pairwise-second xs ys (omega arith))
 
 -- ---- one side: of ks the first i are done, and the others are to be made of xs and ys
 

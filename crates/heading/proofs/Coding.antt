@@ -4,12 +4,12 @@ use Prim.Native.Nat.{ℕ, zero, suc, _+_, _*_, _-_, _/_, _%_, _^_, _≤_, _<_}
 use native.Mathlib.Nat.{pow-suc}
 use native.Mathlib.Omega.{arith}
 use mathlib.Core.Path.{_≡_, refl, ap, sym, _∙_}
-use mathlib.Core.List.{List, _∷_, _++_}
+use mathlib.Core.List.{List, _∷_}
 use lib.ListN.{length}
 use lib.Pow.{pow-add}
 use Rattle.reading.specs.Bytes.{bitsOfBytes}
 use Rattle.reading.specs.Spelling.{bitsOf}
-use Rattle.reading.proofs.Spelling.{bits-bitsOf, bitsOfByte-is}
+use Rattle.reading.proofs.Spelling.{bits-bitsOf, bits-cons}
 use Rattle.rfc9639.specs.Write.{followers}
 use Rattle.output.specs.declared.Pen.{Pen}
 use Rattle.output.specs.Ink.{State, inked}
@@ -18,10 +18,9 @@ use Rattle.output.proofs.Inking.{inked-append, inked-nothing, inked-length}
 -- A byte written is the first of some.
 pub byte-first : (b : ℕ) (bs : List ℕ) (p : Pen) (s : List ℕ) {q : Pen} {t : List ℕ} → _≡_ {A = State} (record { pen = q; bytes = t }) (inked (bitsOf 8 b) p s)
     → inked (bitsOfBytes bs) q t ≡ inked (bitsOfBytes (b ∷ bs)) p s
-unfolding bitsOfBytes
 byte-first b bs p s e =
     ap (λ x. inked (bitsOfBytes bs) (x .pen) (x .bytes)) e ∙ sym (inked-append (bitsOf 8 b) (bitsOfBytes bs) p s (bits-bitsOf 8 b))
-    ∙ ap (λ x. inked (x ++ bitsOfBytes bs) p s) (sym (bitsOfByte-is b))
+    ∙ ap (λ x. inked x p s) (bits-cons b bs)
 
 -- the code's shift and the definition's quotient
 sixes : (m : ℕ) → 2 ^ (6 * m) ≡ 64 ^ m

@@ -9,15 +9,13 @@ use borrow.Author.Tests.{ne-eqb}
 use lib.IntN.{ℤ, pos, negℤ, natAbs, _+ℤ_, _-ℤ_, _*ℤ_}
 use lib.ListN.{length, getD, take}
 use mir.Syntax.{w64}
-use mir.Val.{SFits, toZ, ofZ}
+use mir.Val.{SFits}
 use mir.Facts.{toZ-ofZ}
 use Rattle.rfc9639.specs.Prediction.{dot, fixedCoefficients}
+use Rattle.number.proofs.Signs.{bits64}
 use Rattle.number.proofs.Sizes.{sfits-of-abs, abs-add, abs-mul, abs-neg}
 use Rattle.lanes.specs.Predicted.{predictedAt}
 use Rattle.lanes.proofs.Missing.{latest}
-
-abbrev pub bits64 : ℤ → ℤ
-bits64 z = toZ w64 (ofZ w64 z)
 
 -- ---- one product more
 

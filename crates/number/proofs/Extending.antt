@@ -1,18 +1,19 @@
 -- Sign extension, and the low bits, at each width. Assumes nothing.
 use Prim.Native.Nat.{ℕ, _*_, _%_, _^_, _+_, _≤_, _<_}
-use native.Mathlib.Nat.{mod-eq-of-lt, mod-one, one-mul}
+use native.Mathlib.Nat.{mod-eq-of-lt, mod-one}
 use native.Mathlib.Omega.{arith}
 use mathlib.Core.Path.{_≡_, refl, ap, sym, _∙_}
 use mathlib.Core.Bool.{Bool, true, false, cond}
 use borrow.Author.Tests.{leb-true, leb-false, le-leb, lt-leb}
 use lib.Dec.{leb}
 use lib.IntN.{ℤ, pos}
-use lib.Pow.{pow-pos, pow-lt}
+use lib.Pow.{pow-pos}
 use mir.Syntax.{w64}
 use mir.Val.{SFits, toZ, ofZ}
 use mir.Facts.{toZ-ofZ}
+use Rattle.reading.proofs.Bits.{one-shifted}
 use Rattle.rfc9639.specs.Integers.{signed, low, wrapped, shiftDown}
-use Rattle.rfc9639.proofs.Widths.{Fits, wrapped-fits, low-low}
+use Rattle.rfc9639.proofs.Widths.{low-low}
 use Rattle.number.specs.Extend.{signExtend, lowBits}
 use Rattle.number.proofs.Machine.{up-and-down}
 
@@ -35,15 +36,6 @@ module _ (w v : ℕ) where
           let f : w ≡ 64 = omega (arith, leb-false w 63 e) in
           extend-all (omega arith) (rw f at l) ∙ ap (λ n. signed n v) (sym f)
 
-  -- whatever the bits above are, the answer fits the width
-  pub extend-fits : w ≤ 64 → Fits w (signExtend w v)
-  unfolding signExtend
-  extend-fits h = go (leb w 63) refl
-    where
-      go : (t : Bool) → leb w 63 ≡ t → Fits w (cond t (wrapped w (pos v)) (wrapped 64 (pos v)))
-      go true e = wrapped-fits w (pos v)
-      go false e = let f : 64 ≡ w = omega (arith, leb-false w 63 e) in rw (← f) (wrapped-fits 64 (pos v))
-
 -- no bits spell nothing
 pub extend-none : (v : ℕ) → signExtend 0 v ≡ pos 0
 unfolding signed
@@ -53,7 +45,17 @@ extend-none v = extend-low 0 v (omega arith) ∙ ap (signed 0) (mod-one v)
 pub extend-shifts : (w k v : ℕ) → w ≤ 63 → w + k ≡ 64 → shiftDown k (signed 64 ((v * 2 ^ k) % 2 ^ 64)) ≡ signExtend w v
 extend-shifts w k v h e = up-and-down w k 64 v e ∙ sym (extend-low w v h)
 
--- ---- the low bits, of all 64 bits of a number. A signed value is handed on by its bits.
+-- ---- the low bits: of a width up to 64 they are the width's
+
+pub lowBits-is : (w : ℕ) (z : ℤ) → w ≤ 64 → lowBits w z ≡ low w z
+unfolding lowBits
+lowBits-is w z h = go (leb w 63) refl
+  where
+    go : (t : Bool) → leb w 63 ≡ t → cond t (low w z) (low 64 z) ≡ low w z
+    go true e = refl
+    go false e = ap (λ n. low n z) (let f : 64 ≡ w = omega (arith, leb-false w 63 e) in f)
+
+-- as the function has them, of all 64 bits of a number. A signed value is handed on by its bits.
 
 module _ (w : ℕ) {z : ℤ} (f : SFits w64 z) {r : ℕ} (e : r ≡ low 64 (toZ w64 (ofZ w64 z))) where
   all-of : r ≡ low 64 z
@@ -64,13 +66,9 @@ module _ (w : ℕ) {z : ℤ} (f : SFits w64 z) {r : ℕ} (e : r ≡ low 64 (toZ 
   low-bits-all h = rw (lt-leb w 63 h) all-of
 
   module _ (h : w < 64) where
-    -- the divisor, as it is worked out
-    divisor : 1 * 2 ^ w % 2 ^ 64 ≡ 2 ^ w
-    divisor = ap (λ n. n % 2 ^ 64) (one-mul (2 ^ w)) ∙ mod-eq-of-lt (pow-lt h)
-
     pub divisor-some : 0 < 1 * 2 ^ w % 2 ^ 64
-    divisor-some = rw divisor (pow-pos w)
+    divisor-some = rw (one-shifted w h) (pow-pos w)
 
     pub low-bits-some : r % (1 * 2 ^ w % 2 ^ 64) ≡ lowBits w z
     unfolding lowBits
-    low-bits-some = rw (divisor, le-leb w 63 (omega arith)) (ap (λ n. n % 2 ^ w) all-of ∙ low-low w 64 (omega arith) z)
+    low-bits-some = rw (one-shifted w h, le-leb w 63 (omega arith)) (ap (λ n. n % 2 ^ w) all-of ∙ low-low w 64 (omega arith) z)

@@ -7,8 +7,8 @@ use native.Mathlib.Omega.{arith}
 use mathlib.Core.Path.{_≡_, refl, ap, ap₂, sym, _∙_, subst}
 use mathlib.Core.List.{List, [], _∷_}
 use lib.IntN.{ℤ, pos, natAbs, _+ℤ_, _*ℤ_}
-use lib.ListN.{length, getD, drop}
-use lib.Seq.{drop-cons, drop-length}
+use lib.ListN.{length, getD, drop, drop-of-length-le}
+use lib.Seq.{drop-cons}
 use mir.Syntax.{w32, w64}
 use mir.Val.{SFits, toZ, ofZ}
 use mir.Facts.{toZ-ofZ}
@@ -81,4 +81,4 @@ module _ {cs xs : List ℤ} {acc i : ℕ} (inv : Dotted cs xs acc i) (few : leng
 
   pub end : length cs ≤ i → toZ w64 acc ≡ dot (pos 0) cs xs
   unfolding dot
-  end h = sym (inv .same ∙ ap (λ (l : List ℤ). dot (toZ w64 acc) l (drop i xs)) (ap (λ n. drop n cs) (let e : i ≡ length cs = omega (arith, inv .within) in e) ∙ drop-length cs))
+  end h = sym (inv .same ∙ ap (λ (l : List ℤ). dot (toZ w64 acc) l (drop i xs)) (drop-of-length-le cs h))

@@ -4,15 +4,16 @@ use Prim.Native.Nat.{ℕ, zero, suc, _+_, _*_, _^_, _≤_, _<_}
 use native.Mathlib.Nat.{add-zero, zero-add}
 use native.Mathlib.Numerals.{add-one}
 use native.Mathlib.Omega.{arith}
-use mathlib.Core.Path.{_≡_, refl, ap, ap₂, sym, _∙_}
+use mathlib.Core.Path.{_≡_, refl, ap, ap₂, sym, _∙_, subst}
 use mathlib.Core.Bool.{Bool, true, false, cond, _&&_}
 use mathlib.Core.List.{List, [], _∷_, _++_}
 use lib.Dec.{ltb}
 use lib.ListN.{length, take, drop, set, length-set, length-append, length-drop, take-append-drop}
-use lib.Seq.{sets, sets-eq, length-take-le}
+use lib.Seq.{sets, sets-eq, take-at, length-take-le}
 use borrow.Author.Tests.{lt-ltb, le-ltb, ltb-true, ltb-false}
+use Rattle.reading.specs.Bytes.{bitsOfBytes}
 use Rattle.reading.specs.Spelling.{spelt, bytesOf}
-use Rattle.reading.proofs.Spelling.{Bits, length-bytesOf}
+use Rattle.reading.proofs.Spelling.{Bits, length-bytesOf, bits-of-packed}
 use Rattle.output.specs.declared.Pen.{Pen}
 use Rattle.output.specs.Ink.{State, inkBit, ink, isPen, inked, fresh}
 
@@ -153,6 +154,9 @@ pub inked-none : (bs : List ℕ) (p : Pen) (s : List ℕ) → isPen p ≡ false 
 unfolding inked
 inked-none bs p s e = rw e
 
+pub inked-good : (bs : List ℕ) (p : Pen) (s : List ℕ) {q : Pen} {t : List ℕ} → Bits bs → Good p → _≡_ {A = State} (record { pen = q; bytes = t }) (inked bs p s) → Good q
+inked-good bs p s h g e = subst Good (sym (ap (λ (x : State). x .pen) (e ∙ inked-is bs p s g))) (ink-good bs p s h g)
+
 pub inked-nothing : (p : Pen) (s : List ℕ) → inked [] p s ≡ record { pen = p; bytes = s }
 unfolding inked ink
 inked-nothing p s = go (isPen p)
@@ -183,11 +187,6 @@ inked-append xs bs p s h = go (isPen p) refl
         ∙ ap (more bs) (sym (inked-is xs p s g))
     go false e = inked-none (xs ++ bs) p s e ∙ sym (inked-none bs p s e) ∙ ap (more bs) (sym (inked-none xs p s e))
 
--- a call behind a call: what both wrote
-pub inked-then : (xs bs : List ℕ) (p : Pen) (s : List ℕ) {q r : Pen} {t u : List ℕ} → Bits xs → _≡_ {A = State} (record { pen = q; bytes = t }) (inked xs p s)
-    → _≡_ {A = State} (record { pen = r; bytes = u }) (inked bs q t) → _≡_ {A = State} (record { pen = r; bytes = u }) (inked (xs ++ bs) p s)
-inked-then xs bs p s h e f = f ∙ ap (more bs) e ∙ sym (inked-append xs bs p s h)
-
 -- ---- from the start
 
 pub fresh-good : Good fresh
@@ -201,6 +200,13 @@ inked-whole bs s m e l =
     inked-is bs fresh s fresh-good ∙ ink-bytes m bs 0 s e (omega arith)
     ∙ ap₂ (λ (i : ℕ) (t : List ℕ). record { pen = record { byte = i; held = 0; bits = 0 }; bytes = t }) (zero-add m)
     (sets-eq (bytesOf m bs) s 0 (omega (arith, length-bytesOf m bs)) ∙ ap (λ (i : ℕ). bytesOf m bs ++ drop i s) (zero-add (length (bytesOf m bs)) ∙ length-bytesOf m bs))
+
+-- the bytes before the pen then have just these bits
+pub inked-before : (bs s : List ℕ) (m : ℕ) → Bits bs → length bs ≡ 8 * m → m ≤ length s → {p : Pen} {t : List ℕ}
+    → _≡_ {A = State} (record { pen = p; bytes = t }) (inked bs fresh s) → bitsOfBytes (take (p .byte) t) ≡ bs
+inked-before bs s m b e l w =
+    ap (λ (x : State). bitsOfBytes (take (x .pen .byte) (x .bytes))) (w ∙ inked-whole bs s m e l)
+    ∙ ap bitsOfBytes (take-at (bytesOf m bs) (drop m s) m (length-bytesOf m bs)) ∙ bits-of-packed m bs b e
 
 -- and fewer than eight bits more, which the pen holds
 pub inked-part : (bs cs s : List ℕ) (m : ℕ) → length bs ≡ 8 * m → length cs < 8 → m < length s

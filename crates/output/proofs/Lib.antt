@@ -1,4 +1,6 @@
 -- Laws of the pen, for its functions and for their callers.
 pub mod Inking
+pub mod Chaining
+pub mod Rows
 pub mod Writing
 pub mod Outcome

@@ -8,13 +8,14 @@ use Rattle.output.specs.declared.Pen.{Pen}
 use Rattle.output.specs.Ink.{State, inked}
 
 module _ {p p′ : Pen} {s s′ : List ℕ} where
-  one : {x : State} → _≡_ {A = State} (record { pen = p; bytes = s }) x → _≡_ {A = State} (record { pen = p′; bytes = s′ }) x → (p ≡ p′) × (s ≡ s′)
-  one e f = (ap (λ y. y .pen) (e ∙ sym f), ap (λ y. y .bytes) (e ∙ sym f))
+  -- for callers that write, too
+  pub state-one : {x : State} → _≡_ {A = State} (record { pen = p; bytes = s }) x → _≡_ {A = State} (record { pen = p′; bytes = s′ }) x → (p ≡ p′) × (s ≡ s′)
+  state-one e f = (ap (λ y. y .pen) (e ∙ sym f), ap (λ y. y .bytes) (e ∙ sym f))
 
   pub write-bits-one : (n v : ℕ) (pen : Pen) (out : List ℕ) → _≡_ {A = State} (record { pen = p; bytes = s }) (inked (bitsOf n v) pen out)
       → _≡_ {A = State} (record { pen = p′; bytes = s′ }) (inked (bitsOf n v) pen out) → (p ≡ p′) × (s ≡ s′)
-  write-bits-one n v pen out = one
+  write-bits-one n v pen out = state-one
 
   pub write-unary-one : (q : ℕ) (pen : Pen) (out : List ℕ) → _≡_ {A = State} (record { pen = p; bytes = s }) (inked (unary q) pen out)
       → _≡_ {A = State} (record { pen = p′; bytes = s′ }) (inked (unary q) pen out) → (p ≡ p′) × (s ≡ s′)
-  write-unary-one q pen out = one
+  write-unary-one q pen out = state-one

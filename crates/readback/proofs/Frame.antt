@@ -2,7 +2,7 @@
 use Prim.Native.Nat.{ℕ, _≤_}
 use native.Mathlib.Omega.{arith}
 use mathlib.Core.Path.{refl, ap, sym}
-use mathlib.Core.List.{List, [], _++_, append-assoc}
+use mathlib.Core.List.{List, [], _++_, append-assoc, flatMap}
 use borrow.Author.Tests.{lt-ltb, le-leb, eq-eqb}
 use lib.IntN.{ℤ}
 use lib.ListN.{length, replicate}
@@ -20,11 +20,12 @@ use Rattle.rfc9639.specs.Frame.{opening, widths, padding, footer, body, frame}
 use Rattle.rfc9639.specs.Write.{headerBits, lanes, laneWidth, stored, laneBits, subframesBits, padded, footed, frameBits}
 use Rattle.rfc9639.proofs.Widths.{Fits}
 use Rattle.rfc9639.proofs.CheckSums.{crc16-below}
-use Rattle.readback.proofs.Spells.{Spells, flat, spells-as, spells-value, spells-by, spells-bits, spells-passed, spells-done, spells-bind, spells-then, spells-last, spells-require, spells-checked, spells-each}
+use Rattle.rfc9639.proofs.Listing.{width-within, widths-lanes}
+use Rattle.readback.proofs.Spells.{Spells, spells-as, spells-value, spells-by, spells-bits, spells-passed, spells-done, spells-bind, spells-then, spells-last, spells-require, spells-checked, spells-each}
 use Rattle.rfc9639.proofs.Allowed.{Allowed}
 use Rattle.readback.proofs.Header.{headerOf, spells-header}
 use Rattle.readback.proofs.Subframe.{spells-subframe}
-use Rattle.readback.proofs.Lanes.{Held, widths-lanes, width-within, lanes-held, joined-lanes}
+use Rattle.readback.proofs.Lanes.{Held, lanes-held, joined-lanes}
 
 -- what is behind the subframes
 abbrev footerBits : List ℕ → List ℕ
@@ -55,7 +56,7 @@ module _ (set : FrameSetting) (xs : List ℤ) (ok : Allowed set (length xs)) (fi
 
   spells-subframes : {before : List ℕ}
       → Spells before (each (subframe (set .size)) (widths (assignment (set .channels)) (set .bits))) (subframesBits set xs)
-      (flat (stored (set .size) xs) (lanes (assignment (set .channels))))
+      (flatMap (stored (set .size) xs) (lanes (assignment (set .channels))))
   unfolding subframesBits
   spells-subframes =
       let a = assignment (set .channels) in

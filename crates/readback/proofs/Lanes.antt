@@ -2,11 +2,11 @@
 use Prim.Native.Nat.{ℕ, zero, suc, _+_, _*_, _≤_, _<_}
 use native.Mathlib.Nat.{mul-le-mul-right, suc-mul, zero-mul}
 use native.Mathlib.Omega.{arith}
-use mathlib.Core.Path.{_≡_, refl, ap, sym, _∙_}
-use mathlib.Core.List.{List, [], _∷_, _++_, map, append-nil}
+use mathlib.Core.Path.{_≡_, ap, sym, _∙_}
+use mathlib.Core.List.{List, [], _∷_, _++_, map, append-nil, flatMap}
 use lib.Dec.{eqb}
 use lib.IntN.{ℤ}
-use lib.ListN.{length, take, drop, replicate, take-append-drop, drop-of-length-le}
+use lib.ListN.{length, take, drop, take-append-drop, drop-of-length-le}
 use lib.Seq.{drop-drop}
 use Rattle.reading.proofs.Holding.{Every, every-take, every-drop, every-map}
 use Rattle.rfc9639.specs.declared.ChannelAssignment.{ChannelAssignment}
@@ -15,38 +15,14 @@ use Rattle.rfc9639.specs.declared.Lane.{Lane}
 use Rattle.rfc9639.specs.declared.Lane.the-variants.{Channel, Mid, Side}
 use Rattle.rfc9639.specs.Header.{channelCount}
 use Rattle.rfc9639.specs.Stereo.{joined}
-use Rattle.rfc9639.specs.Frame.{widths}
 use Rattle.rfc9639.specs.Coding.{counting}
 use Rattle.rfc9639.specs.Write.{laneOf, lanes, laneWidth, midOf, sideOf, channel, stored}
 use Rattle.rfc9639.proofs.Widths.{Fits}
 use Rattle.rfc9639.proofs.Lengths.{length-channel}
-use Rattle.rfc9639.proofs.Choosing.{counted}
-use Rattle.readback.proofs.Tests.{by-test}
-use Rattle.readback.proofs.Spells.{flat}
+use Rattle.rfc9639.proofs.Listing.{counted}
+use Rattle.reading.proofs.Tests.{by-test}
 use Rattle.readback.proofs.Stereo.{side-fits, mid-fits}
 use Rattle.readback.proofs.Pairs.{Pair, length-pairs, every-pair, joined-left-side, joined-side-right, joined-mid-side}
-
--- ---- the widths are those of the lanes
-
-widths-independent : (k b a n : ℕ) → replicate n b ≡ map (laneWidth b) (map (laneOf (Independent k)) (counting a n))
-unfolding laneWidth laneOf counting
-widths-independent k b a zero = refl
-widths-independent k b a (suc n) = ap (λ ws. b ∷ ws) (widths-independent k b (suc a) n)
-
-pub widths-lanes : (a : ChannelAssignment) (b : ℕ) → widths a b ≡ map (laneWidth b) (lanes a)
-unfolding widths lanes channelCount laneWidth laneOf counting
-widths-lanes (Independent k) b = widths-independent k b 0 k
-widths-lanes LeftSide b = refl
-widths-lanes SideRight b = refl
-widths-lanes MidSide b = refl
-
-pub width-within : (b : ℕ) (lane : Lane) → (b ≤ laneWidth b lane) × (laneWidth b lane ≤ b + 1)
-unfolding laneWidth
-width-within b (Channel c) = omega arith
-width-within b Mid = omega arith
-width-within b Side = omega arith
-
--- ---- the lanes of a frame
 
 -- n samples that fit the lane's width
 pub record Held (b n : ℕ) (xs : List ℤ) (lane : Lane) : Type 0 where
@@ -55,8 +31,8 @@ pub record Held (b n : ℕ) (xs : List ℤ) (lane : Lane) : Type 0 where
 
 module _ (n : ℕ) (xs : List ℤ) where
   -- channels as they are, from channel a on
-  flat-from : (k a m : ℕ) → length xs ≡ (a + m) * n → flat (stored n xs) (map (laneOf (Independent k)) (counting a m)) ≡ drop (a * n) xs
-  unfolding flat stored laneOf counting channel
+  flat-from : (k a m : ℕ) → length xs ≡ (a + m) * n → flatMap (stored n xs) (map (laneOf (Independent k)) (counting a m)) ≡ drop (a * n) xs
+  unfolding flatMap stored laneOf counting channel
   flat-from k a zero e = sym (drop-of-length-le xs {i = a * n} (omega arith))
   flat-from k a (suc m) e =
       ap (λ ys. take n (drop (a * n) xs) ++ ys)
@@ -64,11 +40,11 @@ module _ (n : ℕ) (xs : List ℤ) where
       ∙ ap (λ i. drop i xs) (suc-mul a n) ∙ sym (drop-drop n (a * n) xs))
       ∙ take-append-drop n (drop (a * n) xs)
 
-  flat-independent : (k m : ℕ) → length xs ≡ m * n → flat (stored n xs) (map (laneOf (Independent k)) (counting 0 m)) ≡ xs
+  flat-independent : (k m : ℕ) → length xs ≡ m * n → flatMap (stored n xs) (map (laneOf (Independent k)) (counting 0 m)) ≡ xs
   flat-independent k m e = flat-from k 0 m (omega arith) ∙ ap (λ i. drop i xs) (zero-mul n)
 
   left-and-right : length xs ≡ 2 * n → channel n xs 0 ++ channel n xs 1 ≡ xs
-  unfolding flat stored laneOf counting
+  unfolding flatMap stored laneOf counting
   left-and-right e = ap (λ ys. channel n xs 0 ++ ys) (sym (append-nil (channel n xs 1))) ∙ flat-independent 2 2 e
 
   module _ {b : ℕ} (h : 1 ≤ b) (most : b ≤ 24) (fit : Every (Fits b) xs) where
@@ -111,8 +87,8 @@ module _ (n : ℕ) (xs : List ℤ) where
 
     -- two lanes
     joined-two : (a : ChannelAssignment) (u v : Lane) → length xs ≡ 2 * n → joined a n (stored n xs u ++ stored n xs v) ≡ channel n xs 0 ++ channel n xs 1
-        → joined a n (flat (stored n xs) (u ∷ v ∷ [])) ≡ xs
-    unfolding flat
+        → joined a n (flatMap (stored n xs) (u ∷ v ∷ [])) ≡ xs
+    unfolding flatMap
     joined-two a u v e j = ap (λ ys. joined a n (stored n xs u ++ ys)) (append-nil (stored n xs v)) ∙ j ∙ left-and-right e
 
     module _ (a : ChannelAssignment) (e : length xs ≡ channelCount a * n) where
@@ -122,11 +98,11 @@ module _ (n : ℕ) (xs : List ℤ) where
           every-map (Held b n xs) (laneOf a) (counting 0 (channelCount a))
           (counted (λ c. Held b n xs (laneOf a c)) 0 (channelCount a) (λ c l. held a c e (omega arith)))
 
-      pub joined-lanes : joined a n (flat (stored n xs) (lanes a)) ≡ xs
+      pub joined-lanes : joined a n (flatMap (stored n xs) (lanes a)) ≡ xs
       unfolding joined lanes laneOf counting channelCount stored
       joined-lanes = go a e
         where
-          go : (a : ChannelAssignment) → length xs ≡ channelCount a * n → joined a n (flat (stored n xs) (lanes a)) ≡ xs
+          go : (a : ChannelAssignment) → length xs ≡ channelCount a * n → joined a n (flatMap (stored n xs) (lanes a)) ≡ xs
           go (Independent k) e = flat-independent k k e
           go LeftSide e = joined-two LeftSide (Channel 0) Side e (joined-left-side h most (pair e))
           go SideRight e = joined-two SideRight Side (Channel 1) e (joined-side-right h most (pair e))

@@ -1,6 +1,5 @@
 -- What is written is read back.
 pub mod Spells
-pub mod Tests
 pub mod Number
 pub mod Header
 pub mod Samples

@@ -2,23 +2,18 @@
 use Prim.Native.Nat.{ℕ, zero, suc, _+_, _*_, _/_, _%_, _^_, _<_}
 use native.Mathlib.Nat.{div-add-mod', mod-lt, mod-eq-of-lt, mul-add-mod-self-right, mul-le-mul-right, pow-suc, one-le-pow}
 use native.Mathlib.Omega.{arith}
-use mathlib.Core.Path.{_≡_, ap, sym, _∙_}
+use mathlib.Core.Path.{_≡_, ap, _∙_}
 use mathlib.Core.Bool.{Bool, true, false, cond}
-use mathlib.Core.List.{List, [], _∷_, _++_}
+use mathlib.Core.List.{List, [], _∷_}
 use borrow.Author.Tests.{ltb-true, lt-ltb, eq-eqb}
 use lib.Dec.{ltb}
 use Rattle.reading.specs.Reading.{Ask, done, stop}
 use Rattle.reading.specs.Bytes.{bitsOfBytes}
-use Rattle.reading.specs.Spelling.{bitsOf}
-use Rattle.reading.proofs.Spelling.{bitsOfByte-is}
+use Rattle.reading.proofs.Spelling.{bits-cons}
 use Rattle.rfc9639.specs.Number.{followed, numberFrom, codedNumber}
 use Rattle.rfc9639.specs.Write.{followers, numberBytes}
-use Rattle.readback.proofs.Tests.{tested, by-test, Taken, valueAt, rung}
+use Rattle.reading.proofs.Tests.{tested, by-test, Taken, valueAt, rung}
 use Rattle.readback.proofs.Spells.{Spells, spells-as, spells-value, spells-by, spells-bits, spells-done, spells-bind, spells-checked}
-
-byte-bits : (b : ℕ) (bs : List ℕ) → bitsOf 8 b ++ bitsOfBytes bs ≡ bitsOfBytes (b ∷ bs)
-unfolding bitsOfBytes
-byte-bits b bs = ap (λ s. s ++ bitsOfBytes bs) (sym (bitsOfByte-is b))
 
 -- one digit more, in any base
 digit : (b m acc v : ℕ) → 0 < b → 0 < m → (acc * b + v / m % b) * m + v % m ≡ acc * (m * b) + v % (m * b)
@@ -41,7 +36,7 @@ unfolding followed followers bitsOfBytes
 spells-followed zero acc v = spells-value (omega arith) spells-done
 spells-followed (suc n) acc v =
     let b : ℕ = 0x80 + v / 64 ^ n % 64 in
-    spells-as (byte-bits b (followers n v))
+    spells-as (bits-cons b (followers n v))
     (spells-bind _ (spells-bits 8 {v = b} (omega arith))
     (spells-checked 5 _ (eq-eqb (b / 64) 2 (omega arith))
     (spells-value
@@ -54,7 +49,7 @@ spells-form : (n b acc v : ℕ) {before : List ℕ} → numberFrom b ≡ followe
     → Spells before codedNumber (bitsOfBytes (b ∷ followers n v)) v
 unfolding codedNumber
 spells-form n b acc v first h e =
-    spells-as (byte-bits b (followers n v)) (spells-bind _ (spells-bits 8 h) (spells-by first (spells-value e (spells-followed n acc v))))
+    spells-as (bits-cons b (followers n v)) (spells-bind _ (spells-bits 8 h) (spells-by first (spells-value e (spells-followed n acc v))))
 
 -- the first byte, by the ones that it starts with
 abbrev firsts : ℕ → List (Bool × Ask ℕ)

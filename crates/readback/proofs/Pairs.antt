@@ -13,6 +13,7 @@ use Rattle.rfc9639.specs.Stereo.{rightOf, leftOf, leftOfMid, rightOfMid, pairwi
 use Rattle.rfc9639.specs.Write.{midOf, sideOf}
 use Rattle.rfc9639.proofs.Widths.{Fits}
 use Rattle.rfc9639.proofs.Lengths.{length-pairwise}
+use Rattle.rfc9639.proofs.Listing.{pairwise-first, pairwise-second}
 use Rattle.readback.proofs.Stereo.{right-back, left-back, left-of-mid-back, right-of-mid-back}
 
 module _ {P : ℤ → Type 0} where
@@ -30,19 +31,6 @@ module _ {P : ℤ → Type 0} where
   pairwise-pairwise k f g e q (x ∷ xs) [] h i = refl
   pairwise-pairwise k f g e q (x ∷ xs) (y ∷ ys) h i = ap₂ (λ z zs. z ∷ zs) (q x y (h .0) (i .0)) (pairwise-pairwise k f g e q xs ys (h .1) (i .1))
 
-pairwise-first : (xs ys : List ℤ) → length xs ≡ length ys → pairwise (λ x y. x) xs ys ≡ xs
-unfolding pairwise
-pairwise-first [] ys e = refl
-pairwise-first (x ∷ xs) [] e = absurd (omega arith)
-pairwise-first (x ∷ xs) (y ∷ ys) e = ap (λ zs. x ∷ zs) (pairwise-first xs ys (omega arith))
-
-pairwise-second : (xs ys : List ℤ) → length xs ≡ length ys → pairwise (λ x y. y) xs ys ≡ ys
-unfolding pairwise
-pairwise-second [] [] e = refl
-pairwise-second [] (y ∷ ys) e = absurd (omega arith)
-pairwise-second (x ∷ xs) [] e = absurd (omega arith)
-pairwise-second (x ∷ xs) (y ∷ ys) e = ap (λ zs. y ∷ zs) (pairwise-second xs ys (omega arith))
-
 -- two channels of n samples of w bits
 pub record Pair (w n : ℕ) (ls rs : List ℤ) : Type 0 where
   pub fits-left : Every (Fits w) ls
@@ -55,10 +43,10 @@ module _ {w n : ℕ} {ls rs : List ℤ} (h : 1 ≤ w) (most : w ≤ 24) (p : Pai
   length-pairs f = length-pairwise f ls rs ∙ omega arith
 
   first : pairwise (λ x y. x) ls rs ≡ ls
-  first = pairwise-first ls rs (p .length-left ∙ sym (p .length-right))
+  first = pairwise-first ls rs (omega arith)
 
   second : pairwise (λ x y. y) ls rs ≡ rs
-  second = pairwise-second ls rs (p .length-left ∙ sym (p .length-right))
+  second = pairwise-second ls rs (omega arith)
 
   pub every-pair : (Q : ℤ → Type 0) (f : ℤ → ℤ → ℤ) → ((x y : ℤ) → Fits w x → Fits w y → Q (f x y)) → Every Q (pairwise f ls rs)
   every-pair Q f q = every-pairwise Q f q ls rs (p .fits-left) (p .fits-right)

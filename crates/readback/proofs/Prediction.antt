@@ -15,7 +15,7 @@ use Rattle.rfc9639.specs.Prediction.{dot, predicted, restored, predict, fixedCo
 use Rattle.rfc9639.specs.Coding.{fold, residuals, fixedResiduals}
 use Rattle.rfc9639.proofs.Widths.{Fits, wrapped-same}
 use Rattle.rfc9639.proofs.Magnitudes.{abs-of-fits, abs-add, abs-neg, abs-mul, abs-shiftDown}
-use Rattle.readback.proofs.Tests.{by-test}
+use Rattle.reading.proofs.Tests.{by-test}
 use Rattle.readback.proofs.Samples.{Small}
 
 -- ---- the samples come back

@@ -5,7 +5,7 @@ use native.Mathlib.Nat.{add-zero, zero-add, zero-mul, mod-eq-of-lt}
 use native.Mathlib.Omega.{arith}
 use mathlib.Core.Path.{_≡_, ap, ap₂, sym, _∙_, subst}
 use mathlib.Core.Bool.{Bool, true}
-use mathlib.Core.List.{List, [], _∷_, _++_, map, append-assoc, append-nil}
+use mathlib.Core.List.{List, [], _∷_, _++_, map, append-assoc, append-nil, flatMap}
 use lib.ListN.{length, length-append}
 use lib.Seq.{drop-append-seam, take-append-seam}
 use Rattle.reading.specs.Reading.{Ask, done, _>>=_, bits, zeros, passed, require, many, each, found, bitsFrom, zerosFrom, answer, follow, got, run}
@@ -17,11 +17,6 @@ use Rattle.reading.proofs.Spelling.{length-bitsOf, spelt-bitsOf}
 -- behind the bits `before`, the bits `bs` are what p reads as a
 pub record Spells {A : Type 0} (before : List ℕ) (p : Ask A) (bs : List ℕ) (a : A) : Type 0 where
   pub reads : (rest : List ℕ) → run p (before ++ (bs ++ rest)) (length before) ≡ got a (length before + length bs)
-
--- what each of some things gives, one behind the other
-unfoldable pub flat : {A B : Type 0} → (A → List B) → List A → List B
-flat f [] = []
-flat f (x ∷ xs) = f x ++ flat f xs
 
 -- ---- the same bits, value or reader, written otherwise
 
@@ -118,7 +113,7 @@ module _ {A : Type 0} (P : A → Type 0) (f : A → List ℕ) where
   spells-many p g (x ∷ xs) h = spells-bind _ (g x (h .0) _) (spells-last _ (spells-many p g xs (h .1)) spells-done)
 
   pub spells-each : {B C : Type 0} (p : C → Ask (List B)) (w : A → C) (v : A → List B) → ((x : A) → P x → (before : List ℕ) → Spells before (p (w x)) (f x) (v x))
-      → (xs : List A) → Every P xs → {before : List ℕ} → Spells before (each p (map w xs)) (row f xs) (flat v xs)
-  unfolding each row flat
+      → (xs : List A) → Every P xs → {before : List ℕ} → Spells before (each p (map w xs)) (row f xs) (flatMap v xs)
+  unfolding each row flatMap
   spells-each p w v g [] h = spells-done
   spells-each p w v g (x ∷ xs) h = spells-bind _ (g x (h .0) _) (spells-last _ (spells-each p w v g xs (h .1)) spells-done)

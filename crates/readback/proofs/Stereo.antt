@@ -1,7 +1,6 @@
 -- Left and right come back from the mean and the difference, and from one of them and the difference (RFC 9639 section
 -- 4.2). Assumes nothing.
 use Prim.Native.Nat.{ℕ, zero, suc, _+_, _-_, _*_, _/_, _%_, _^_, _≤_, _<_}
-use native.Mathlib.Nat.{pow-suc}
 use native.Mathlib.Omega.{arith}
 use mathlib.Core.Path.{_≡_, refl, ap, sym, _∙_}
 use borrow.Author.Tests.{lt-ltb}
@@ -10,7 +9,7 @@ use lib.Signed.{mag}
 use Rattle.rfc9639.specs.Integers.{low, wrapped, shiftDown}
 use Rattle.rfc9639.specs.Stereo.{rightOf, leftOf, doubled, leftOfMid, rightOfMid}
 use Rattle.rfc9639.specs.Write.{midOf, sideOf}
-use Rattle.rfc9639.proofs.Widths.{Fits, fits-mono, fits-add, fits-sub, wrapped-same, low-add-of}
+use Rattle.rfc9639.proofs.Widths.{Fits, fits-mono, fits-add, fits-sub, wrapped-same, low-add-of, pow-more}
 
 -- ---- sums
 
@@ -92,9 +91,6 @@ module _ {w : ℕ} (h : 1 ≤ w) (most : w ≤ 24) {l r : ℤ} (f : Fits w l) (g
   unfolding midOf shiftDown
   mid-fits = halved (l +ℤ r) (fits-add h f g .fits)
     where
-      power : 2 ^ (w + 1 - 1) ≡ 2 ^ (w - 1) * 2
-      power = ap (λ n. 2 ^ n) (let e : w + 1 - 1 ≡ suc (w - 1) = omega arith in e) ∙ pow-suc 2 (w - 1)
-
       halved : (z : ℤ) → mag z < 2 ^ (w + 1 - 1) → Fits w (shiftDown 1 z)
-      halved (pos n) k = record { fits = omega (arith, power) }
-      halved (negsuc n) k = record { fits = omega (arith, power) }
+      halved (pos n) k = record { fits = omega (arith, pow-more w h) }
+      halved (negsuc n) k = record { fits = omega (arith, pow-more w h) }

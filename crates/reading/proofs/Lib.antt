@@ -1,4 +1,5 @@
 -- Laws of readers: what every tree obeys, and what the layers above cite.
+pub mod Tests
 pub mod Spelling
 pub mod Prefix
 pub mod Bits

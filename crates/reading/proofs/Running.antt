@@ -177,16 +177,13 @@ module _ {A B : Type 0} (p : Ask A) (k : A → Ask B) (s : List ℕ) (at : Place
       go (refusedAt n) f = absurd (let d = bind-refused p s at k f in let z : _≡_ {A = ℕ} 0 1 = cc in omega arith)
       go shortAt f = absurd (let d = bind-short p s at k f in let z : _≡_ {A = ℕ} 0 1 = cc in omega arith)
 
--- three in a row are the same either way; and what does the same behind does the same
+-- three in a row are the same either way
 pub bind-assoc : {A B C : Type 0} (p : Ask A) (k : A → Ask B) (g : B → Ask C) → p >>= k >>= g ≡ p >>= (λ a. k a >>= g)
 unfolding _>>=_
 bind-assoc (done a) k g = refl
 bind-assoc (stop n) k g = refl
 bind-assoc (ask q f) k g = ap (ask q) (fun-ext (λ v. bind-assoc (f v) k g))
 bind-assoc (seen f) k g = ap seen (fun-ext (λ l. bind-assoc (f l) k g))
-
-pub bind-on : {A B : Type 0} (p : Ask A) {k g : A → Ask B} → ((a : A) → k a ≡ g a) → p >>= k ≡ p >>= g
-bind-on p h = ap (λ k. p >>= k) (fun-ext h)
 
 -- a check that holds lets the reader go on where it is; one that does not refuses
 require-is : (b : Bool) (n : ℕ) {s : List ℕ} {at : Place} → In s at → runAt (require b n) s at ≡ cond b (gotAt tt at) (refusedAt n)
@@ -239,10 +236,6 @@ module _ {A B : Type 0} (p : Ask A) (put : A → List B) (q : Ask (List B)) (s :
       ap (behind xs) (bind-got p s at on e ∙ runAt-bind q s at′ (λ rest. done (put x ++ rest)))
       ∙ join x (runAt q s at′) (λ ys at″ f. stays-in q s at′ f)
 
-  step-refused : {n : ℕ} → runAt p s at ≡ refusedAt n → behind xs (runAt (p >>= on) s at) ≡ refusedAt n
-  unfolding behind
-  step-refused e = ap (behind xs) (bind-refused p s at on e)
-
   step-short : runAt p s at ≡ shortAt → behind xs (runAt (p >>= on) s at) ≡ shortAt
   unfolding behind
   step-short e = ap (behind xs) (bind-short p s at on e)
@@ -260,10 +253,6 @@ module _ {A : Type 0} (p : Ask A) (s : List ℕ) (xs : List A) (at : Place) wher
   unfolding many on
   many-step n e = step p (λ a. a ∷ []) (many n p) s xs at e
 
-  pub many-refused : (n : ℕ) {k : ℕ} → runAt p s at ≡ refusedAt k → behind xs (runAt (many (suc n) p) s at) ≡ refusedAt k
-  unfolding many on
-  many-refused n e = step-refused p (λ a. a ∷ []) (many n p) s xs at e
-
   pub many-short : (n : ℕ) → runAt p s at ≡ shortAt → behind xs (runAt (many (suc n) p) s at) ≡ shortAt
   unfolding many on
   many-short n e = step-short p (λ a. a ∷ []) (many n p) s xs at e
@@ -277,14 +266,6 @@ module _ {A B : Type 0} (f : A → Ask (List B)) (s : List ℕ) (xs : List B) (a
     pub each-step : {x : List B} {at′ : Place} → runAt (f y) s at ≡ gotAt x at′ → behind xs (runAt (each f (y ∷ ys)) s at) ≡ behind (xs ++ x) (runAt (each f ys) s at′)
     unfolding each on
     each-step e = step (f y) (λ l. l) (each f ys) s xs at e
-
-    pub each-refused : {n : ℕ} → runAt (f y) s at ≡ refusedAt n → behind xs (runAt (each f (y ∷ ys)) s at) ≡ refusedAt n
-    unfolding each on
-    each-refused e = step-refused (f y) (λ l. l) (each f ys) s xs at e
-
-    pub each-short : runAt (f y) s at ≡ shortAt → behind xs (runAt (each f (y ∷ ys)) s at) ≡ shortAt
-    unfolding each on
-    each-short e = step-short (f y) (λ l. l) (each f ys) s xs at e
 
 -- ---- what a question's answer says
 

@@ -1,6 +1,6 @@
 -- Numbers as bits and bits as bytes: how long they are, how they split, and that one undoes the other. Assumes nothing.
 use Prim.Native.Nat.{ℕ, zero, suc, _+_, _*_, _/_, _%_, _^_, _<_}
-use native.Mathlib.Nat.{zero-add, add-zero, suc-add, mul-assoc, add-assoc, add-mul, mul-one, mod-one, mod-mod, mod-lt, div-one, pow-succ', div-eq-of-lt, div-lt-iff-lt-mul}
+use native.Mathlib.Nat.{zero-add, add-zero, suc-add, mul-assoc, add-assoc, add-mul, mul-one, mod-one, mod-mod, mod-lt, div-one, pow-succ', div-eq-of-lt}
 use native.Mathlib.Numerals.{add-one, one-add}
 use native.Mathlib.Omega.{arith}
 use mathlib.Core.Path.{_≡_, refl, ap, ap₂, sym, _∙_}
@@ -139,9 +139,6 @@ spelt-high acc (b ∷ s) h =
     ap (λ k. spelt (acc * 2 + b) s / 2 ^ k) (sym (add-one (length s))) ∙ sym (shr-shr (spelt (acc * 2 + b) s) (length s) 1)
     ∙ ap (λ x. x / 2) (spelt-high (acc * 2 + b) s (h .1)) ∙ omega (arith, h .0)
 
-pub spelt-below : (acc : ℕ) (s : List ℕ) → Bits s → spelt acc s < suc acc * 2 ^ length s
-spelt-below acc s h = div-lt-iff-lt-mul (pow-pos (length s)) .0 (omega (arith, spelt-high acc s h))
-
 pub bitsOf-spelt : (acc : ℕ) (s : List ℕ) → Bits s → bitsOf (length s) (spelt acc s) ≡ s
 unfolding spelt bitsOf
 bitsOf-spelt acc [] h = refl
@@ -153,6 +150,10 @@ bitsOf-spelt acc (b ∷ s) h =
 pub bitsOfByte-is : (b : ℕ) → bitsOfByte b ≡ bitsOf 8 b
 unfolding bitsOfByte bitsOf
 bitsOfByte-is b = refl
+
+pub bits-cons : (b : ℕ) (bs : List ℕ) → bitsOf 8 b ++ bitsOfBytes bs ≡ bitsOfBytes (b ∷ bs)
+unfolding bitsOfBytes
+bits-cons b bs = ap (λ s. s ++ bitsOfBytes bs) (sym (bitsOfByte-is b))
 
 pub length-bytesOf : (m : ℕ) (s : List ℕ) → length (bytesOf m s) ≡ m
 unfolding bytesOf

@@ -1,27 +1,26 @@
 -- A frame's length, and that it is within the bound, whatever the settings and the samples are. Assumes nothing.
-use Prim.Native.Nat.{ℕ, zero, suc, _+_, _-_, _*_, _/_, _%_, _≤_, _<_, min}
-use native.Mathlib.Nat.{mul-le-mul-right, mul-comm, min-le-left}
+use Prim.Native.Nat.{ℕ, zero, suc, _+_, _-_, _*_, _/_, _%_, _≤_}
+use native.Mathlib.Nat.{mul-le-mul-right}
 use native.Mathlib.Omega.{arith}
-use mathlib.Core.Path.{_≡_, refl, ap, ap₂, sym, _∙_}
-use mathlib.Core.Bool.{Bool, true, false, cond}
+use mathlib.Core.Path.{_≡_, refl, ap, _∙_}
 use mathlib.Core.List.{List, [], _∷_, _++_}
-use lib.Dec.{leb, ltb, eqb}
+use lib.Dec.{ltb, eqb}
 use lib.IntN.{ℤ}
-use lib.ListN.{length, take, drop, replicate, length-append, length-take, length-replicate}
+use lib.ListN.{length, replicate, length-append, length-replicate}
 use Rattle.reading.specs.Bytes.{bitsOfBytes}
-use Rattle.reading.specs.Spelling.{bitsOf, row, packed}
+use Rattle.reading.specs.Spelling.{bitsOf, row}
+use Rattle.reading.proofs.Tests.{by-test}
 use Rattle.reading.proofs.Bits.{length-bits}
 use Rattle.reading.proofs.Spelling.{length-bitsOf, length-packed}
 use Rattle.rfc9639.specs.declared.FrameSetting.{FrameSetting}
 use Rattle.rfc9639.specs.declared.Lane.{Lane}
-use Rattle.rfc9639.specs.declared.Lane.the-variants.{Channel, Mid, Side}
 use Rattle.rfc9639.specs.CheckSums.{crc8, crc16}
 use Rattle.rfc9639.specs.Header.{assignment}
-use Rattle.rfc9639.specs.Stereo.{pairwise}
 use Rattle.rfc9639.specs.Frame.{padding}
-use Rattle.rfc9639.specs.Coding.{cost, subframeBits, chosen}
-use Rattle.rfc9639.specs.Write.{sizeCode, sizeBits, followers, numberBytes, codeBits, fieldBits, headerBits, lanes, laneWidth, midOf, sideOf, channel, stored, laneBits, subframesBits, padded, footed, frameBits, frameBytes, mostBits, frameBound}
+use Rattle.rfc9639.specs.Coding.{cost, subframeBits}
+use Rattle.rfc9639.specs.Write.{sizeCode, sizeBits, followers, numberBytes, codeBits, fieldBits, headerBits, lanes, laneWidth, stored, laneBits, subframesBits, padded, footed, frameBits, frameBytes, mostBits, frameBound}
 use Rattle.rfc9639.proofs.Choosing.{chosen-at-most-verbatim}
+use Rattle.rfc9639.proofs.Lengths.{stored-at-most}
 use Rattle.rfc9639.proofs.Costs.{cost-verbatim}
 use Rattle.rfc9639.proofs.Computing.{computedWrite}
 
@@ -33,27 +32,23 @@ unfolding followers
 length-followers zero v = refl
 length-followers (suc n) v = ap suc (length-followers n v)
 
--- either of two
-pub either : {A : Type 0} (P : A → Type 0) (b : Bool) {x y : A} → P x → P y → P (cond b x y)
-either P true p q = p
-either P false p q = q
-
 pub number-at-most : (v : ℕ) → length (numberBytes v) ≤ 7
 unfolding numberBytes followers
 number-at-most v =
     let P : List ℕ → Type 0 = λ l. length l ≤ 7 in
-    either P (ltb v 0x80) (omega arith)
-    (either P (ltb v 0x800) (omega arith)
-    (either P (ltb v 0x1_0000) (omega arith)
-    (either P (ltb v 0x20_0000) (omega arith)
-    (either P (ltb v 0x400_0000) (omega arith)
-    (either P (ltb v 0x8000_0000) (omega arith) (omega arith))))))
+    by-test P (ltb v 0x80) _ _ (λ _. omega arith)
+    (λ _. by-test P (ltb v 0x800) _ _ (λ _. omega arith)
+    (λ _. by-test P (ltb v 0x1_0000) _ _ (λ _. omega arith)
+    (λ _. by-test P (ltb v 0x20_0000) _ _ (λ _. omega arith)
+    (λ _. by-test P (ltb v 0x400_0000) _ _ (λ _. omega arith)
+    (λ _. by-test P (ltb v 0x8000_0000) _ _ (λ _. omega arith) (λ _. omega arith))))))
 
-size-at-most : (n : ℕ) → length (sizeBits n) ≤ 16
+-- no bytes, one or two
+size-bytes : (n : ℕ) → (length (sizeBits n) ≡ 8 * (length (sizeBits n) / 8)) × (length (sizeBits n) ≤ 16)
 unfolding sizeBits bitsOf
-size-at-most n =
-    let P : List ℕ → Type 0 = λ l. length l ≤ 16 in
-    either P (eqb (sizeCode n) 6) (omega arith) (either P (eqb (sizeCode n) 7) (omega arith) (omega arith))
+size-bytes n =
+    let P : List ℕ → Type 0 = λ l. (length l ≡ 8 * (length l / 8)) × (length l ≤ 16) in
+    by-test P (eqb (sizeCode n) 6) _ _ (λ _. omega arith) (λ _. by-test P (eqb (sizeCode n) 7) _ _ (λ _. omega arith) (λ _. omega arith))
 
 length-codes : (set : FrameSetting) → length (codeBits set) ≡ 32
 unfolding codeBits bitsOf
@@ -75,26 +70,17 @@ pub length-header : (set : FrameSetting) → length (headerBits set) ≡ length 
 unfolding headerBits
 length-header set = let fields = fieldBits set in omega (arith, length-append fields (bitsOf 8 (crc8 fields)), length-bitsOf 8 (crc8 fields))
 
+-- whole bytes
+pub fields-whole : (set : FrameSetting) → length (fieldBits set) ≡ 8 * (length (fieldBits set) / 8)
+fields-whole set = omega (arith, length-fields set, size-bytes (set .size))
+
+pub header-whole : (set : FrameSetting) → length (headerBits set) ≡ 8 * (length (headerBits set) / 8)
+header-whole set = omega (arith, length-header set, fields-whole set)
+
 pub header-at-most : (set : FrameSetting) → length (headerBits set) ≤ 112
-header-at-most set = omega (arith, length-header set, length-fields set, number-at-most (set .number), size-at-most (set .size))
+header-at-most set = omega (arith, length-header set, length-fields set, number-at-most (set .number), size-bytes (set .size))
 
 -- ---- the subframes
-
-pairwise-at-most : (f : ℤ → ℤ → ℤ) (xs ys : List ℤ) → length (pairwise f xs ys) ≤ length xs
-unfolding pairwise
-pairwise-at-most f [] ys = omega arith
-pairwise-at-most f (x ∷ xs) [] = omega arith
-pairwise-at-most f (x ∷ xs) (y ∷ ys) = let ih = pairwise-at-most f xs ys in omega arith
-
-channel-at-most : (n : ℕ) (xs : List ℤ) (c : ℕ) → length (channel n xs c) ≤ n
-unfolding channel
-channel-at-most n xs c = omega (arith, length-take n (drop (c * n) xs), min-le-left n (length (drop (c * n) xs)))
-
-stored-at-most : (n : ℕ) (xs : List ℤ) (lane : Lane) → length (stored n xs lane) ≤ n
-unfolding stored
-stored-at-most n xs (Channel c) = channel-at-most n xs c
-stored-at-most n xs Mid = omega (arith, pairwise-at-most midOf (channel n xs 0) (channel n xs 1), channel-at-most n xs 0)
-stored-at-most n xs Side = omega (arith, pairwise-at-most sideOf (channel n xs 0) (channel n xs 1), channel-at-most n xs 0)
 
 subframe-at-most : (w : ℕ) (xs : List ℤ) → length (subframeBits w xs) ≤ 8 + length xs * w
 unfolding subframeBits cost

@@ -1,6 +1,6 @@
 -- The writer's choice: none of the candidates has fewer bits, and of those with as few the first is taken. Assumes
 -- nothing.
-use Prim.Native.Nat.{ℕ, zero, suc, _+_, _≤_, _<_, min}
+use Prim.Native.Nat.{ℕ, _≤_, _<_, min}
 use native.Mathlib.Omega.{arith}
 use mathlib.Core.Path.{_≡_, refl, ap, sym, _∙_, subst}
 use mathlib.Core.Bool.{Bool, true, false, cond}
@@ -13,6 +13,7 @@ use Rattle.reading.proofs.Holding.{Every, every-append, every-imp, every-map}
 use Rattle.rfc9639.specs.declared.Candidate.{Candidate}
 use Rattle.rfc9639.specs.declared.Candidate.the-variants.{Constant, Verbatim, Fixed}
 use Rattle.rfc9639.specs.Coding.{uniform, counting, fixedOnes, candidates, fewestOf, fewest, cost, chosen}
+use Rattle.rfc9639.proofs.Listing.{counted}
 
 -- c is of the list; all before it count more, and none behind it counts less
 pub record Fewest {A : Type 0} (count : A → ℕ) (c : A) (cs : List A) : Type 0 where
@@ -97,12 +98,6 @@ module _ (w : ℕ) (xs : List ℤ) where
       go : (b : Bool) → Fewest (cost w xs) (fewest (cost w xs) (cond b (Constant ∷ []) [] ++ Verbatim ∷ fixedAll)) (cond b (Constant ∷ []) [] ++ Verbatim ∷ fixedAll)
       go true = fewest-is (cost w xs) Constant (Verbatim ∷ fixedAll)
       go false = fewest-is (cost w xs) Verbatim fixedAll
-
--- each number of a row is of the row
-pub counted : (P : ℕ → Type 0) (a n : ℕ) → ((i : ℕ) → i < a + n → P i) → Every P (counting a n)
-unfolding counting
-counted P a zero f = tt
-counted P a (suc n) f = (f a (omega arith), counted P (suc a) n (λ i h. f i (omega arith)))
 
 module _ (xs : List ℤ) where
   fixed-open : (orders : List ℕ) → Every (λ o. o < min 5 (length xs)) orders → Every (Open xs) (fixedOnes orders)

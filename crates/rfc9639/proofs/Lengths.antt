@@ -1,14 +1,17 @@
 -- How many samples and residuals the writer stores. Assumes nothing.
-use Prim.Native.Nat.{ℕ, suc, _-_, _*_, min}
+use Prim.Native.Nat.{ℕ, suc, _-_, _*_, _≤_, min}
 use native.Mathlib.Nat.{zero-min, min-zero, suc-min-suc}
+use native.Mathlib.Omega.{arith}
 use mathlib.Core.Path.{_≡_, refl, ap, sym, _∙_}
 use mathlib.Core.List.{List, [], _∷_, reverse}
 use lib.IntN.{ℤ}
 use lib.ListN.{length, take, drop, length-take, length-drop}
+use Rattle.rfc9639.specs.declared.Lane.{Lane}
+use Rattle.rfc9639.specs.declared.Lane.the-variants.{Channel, Mid, Side}
 use Rattle.rfc9639.specs.Prediction.{fixedCoefficients}
 use Rattle.rfc9639.specs.Stereo.{pairwise}
 use Rattle.rfc9639.specs.Coding.{residuals, fixedResiduals}
-use Rattle.rfc9639.specs.Write.{channel}
+use Rattle.rfc9639.specs.Write.{midOf, sideOf, channel, stored}
 
 pub length-residuals : (cs : List ℤ) (shift : ℕ) (before xs : List ℤ) → length (residuals cs shift before xs) ≡ length xs
 unfolding residuals
@@ -28,3 +31,10 @@ length-pairwise f (x ∷ xs) (y ∷ ys) = ap suc (length-pairwise f xs ys) ∙ s
 pub length-channel : (n : ℕ) (xs : List ℤ) (c : ℕ) → length (channel n xs c) ≡ min n (length xs - c * n)
 unfolding channel
 length-channel n xs c = length-take n (drop (c * n) xs) ∙ ap (min n) (length-drop (c * n) xs)
+
+-- a lane stores n samples at most
+pub stored-at-most : (n : ℕ) (xs : List ℤ) (lane : Lane) → length (stored n xs lane) ≤ n
+unfolding stored
+stored-at-most n xs (Channel c) = omega (arith, length-channel n xs c)
+stored-at-most n xs Mid = omega (arith, length-pairwise midOf (channel n xs 0) (channel n xs 1), length-channel n xs 0)
+stored-at-most n xs Side = omega (arith, length-pairwise sideOf (channel n xs 0) (channel n xs 1), length-channel n xs 0)

@@ -9,6 +9,7 @@ pub mod Published
 pub mod Ordered
 pub mod WrittenCases
 pub mod Allowed
+pub mod Listing
 pub mod Choosing
 pub mod Costs
 pub mod Bound

@@ -6,7 +6,7 @@ use mathlib.Core.Path.{_≡_, refl, ap, ap₂, sym, _∙_, subst}
 use mathlib.Core.Bool.{Bool, true, false, cond}
 use borrow.Author.Tests.{ltb-true, ltb-false, lt-ltb, le-ltb}
 use lib.Dec.{ltb}
-use lib.IntN.{ℤ, pos, negsuc, negℤ, subℕ, _+ℤ_, _-ℤ_, _*ℤ_, +ℤ-invl}
+use lib.IntN.{ℤ, pos, negsuc, negℤ, subℕ, _+ℤ_, _-ℤ_, _*ℤ_}
 use lib.Pow.{pow-pos, pow-mono, pow-add, mod-mod-pow}
 use lib.Signed.{mag}
 use mir.Syntax.{Width}
@@ -162,28 +162,9 @@ module _ (w : ℕ) where
   pub wrapped-wrapped : (z : ℤ) → wrapped w (wrapped w z) ≡ wrapped w z
   wrapped-wrapped z = wrapped-of (wrapped w z) z (low-wrapped z)
 
-  -- what is added to is known by its low bits, and so is what is added, negated or taken away
+  -- a sum is known by the low bits of its parts
   pub low-add-of : (a a′ b b′ : ℤ) → low w a ≡ low w a′ → low w b ≡ low w b′ → low w (a +ℤ b) ≡ low w (a′ +ℤ b′)
   low-add-of a a′ b b′ p q = low-add a b ∙ ap₂ (λ x y. (x + y) % 2 ^ w) p q ∙ sym (low-add a′ b′)
-
-  pub low-neg-of : (a a′ : ℤ) → low w a ≡ low w a′ → low w (negℤ a) ≡ low w (negℤ a′)
-  low-neg-of a a′ p =
-      sym (mod-eq-of-lt (low-lt w (negℤ a)))
-      ∙ cancel (2 ^ w) (low w (negℤ a)) (low w (negℤ a′)) (low w a) (pow-pos w)
-      (sum a ∙ sym (sum a′) ∙ ap (λ x. (low w (negℤ a′) + x) % 2 ^ w) (sym p))
-      ∙ mod-eq-of-lt (low-lt w (negℤ a′))
-    where
-      sum : (z : ℤ) → (low w (negℤ z) + low w z) % 2 ^ w ≡ low w (pos 0)
-      sum z = sym (low-add (negℤ z) z) ∙ ap (low w) (+ℤ-invl z)
-
-  pub low-wrapped-add : (a b : ℤ) → low w (wrapped w a +ℤ b) ≡ low w (a +ℤ b)
-  low-wrapped-add a b = low-add-of (wrapped w a) a b b (low-wrapped a) refl
-
-  pub low-add-wrapped : (a b : ℤ) → low w (a +ℤ wrapped w b) ≡ low w (a +ℤ b)
-  low-add-wrapped a b = low-add-of a a (wrapped w b) b refl (low-wrapped b)
-
-  pub low-sub-wrapped : (a b : ℤ) → low w (a -ℤ wrapped w b) ≡ low w (a -ℤ b)
-  low-sub-wrapped a b = low-add-of a a (negℤ (wrapped w b)) (negℤ b) refl (low-neg-of (wrapped w b) b (low-wrapped b))
 
 -- ---- a narrower width
 
@@ -204,9 +185,6 @@ module _ (w w′ : ℕ) (h : w ≤ w′) where
       subst (λ n. low n z % 2 ^ w ≡ low w z) (let f : w′ - w + w ≡ w′ = omega arith in f)
       (low-of w (alike-narrow w (w′ - w) (low-alike (w′ - w + w) z)))
 
-  pub wrapped-narrow : (z : ℤ) → wrapped w (wrapped w′ z) ≡ wrapped w z
-  wrapped-narrow z = wrapped-of w (wrapped w′ z) z (sym (low-low (wrapped w′ z)) ∙ ap (λ x. x % 2 ^ w) (low-wrapped w′ z) ∙ low-low z)
-
 -- ---- what fits a width, in two's complement
 
 pub record Fits (w : ℕ) (z : ℤ) : Type 0 where
@@ -222,13 +200,17 @@ to-sfits {w} {z} h = record { sfits = subst (λ n. mag z < 2 ^ n) (let e : bits 
 pub fits-mono : {w w′ : ℕ} {z : ℤ} → w ≤ w′ → Fits w z → Fits w′ z
 fits-mono {w} {w′} h f = record { fits = lt-of-lt-of-le (f .fits) (pow-mono {i = w - 1} {j = w′ - 1} (omega arith)) }
 
--- half of a power, from width 1 on
-half : (w : ℕ) → 1 ≤ w → 2 ^ w ≡ 2 ^ (w - 1) * 2
-half w h = ap (λ n. 2 ^ n) (let e : w ≡ suc (w - 1) = omega arith in e) ∙ pow-suc 2 (w - 1)
+-- twice the power before, from width 1 on
+pub pow-double : (w : ℕ) → 1 ≤ w → 2 ^ w ≡ 2 ^ (w - 1) * 2
+pow-double w h = ap (λ n. 2 ^ n) (let e : w ≡ suc (w - 1) = omega arith in e) ∙ pow-suc 2 (w - 1)
+
+-- at a width of one bit more
+pub pow-more : (w : ℕ) → 1 ≤ w → 2 ^ (w + 1 - 1) ≡ 2 ^ (w - 1) * 2
+pow-more w h = ap (λ n. 2 ^ n) (let e : w + 1 - 1 ≡ w = omega arith in e) ∙ pow-double w h
 
 halved : (w : ℕ) → 2 ^ w ≤ 2 ^ (w - 1) * 2
 halved zero = omega arith
-halved (suc w) = omega (arith, half (suc w) (omega arith))
+halved (suc w) = omega (arith, pow-double (suc w) (omega arith))
 
 pub signed-fits : (w v : ℕ) → v < 2 ^ w → Fits w (signed w v)
 unfolding signed
@@ -246,11 +228,11 @@ wrapped-fits w z = signed-fits w (low w z) (low-lt w z)
 pub wrapped-same : (w : ℕ) (z : ℤ) → 1 ≤ w → Fits w z → wrapped w z ≡ z
 unfolding wrapped signed low
 wrapped-same w (pos n) h f =
-    let k = half w h in
+    let k = pow-double w h in
     let e : n % 2 ^ w ≡ n = mod-eq-of-lt (omega (arith, f .fits, k)) in
     rw e (rw (lt-ltb (n * 2) (2 ^ w) (omega (arith, f .fits, k))))
 wrapped-same w (negsuc n) h f =
-    let k = half w h in
+    let k = pow-double w h in
     let e : n % 2 ^ w ≡ n = mod-eq-of-lt (omega (arith, f .fits, k)) in
     rw e (rw (le-ltb ((2 ^ w - suc n) * 2) (2 ^ w) (omega (arith, f .fits, k))) (ap negsuc (let g : 2 ^ w - suc (2 ^ w - suc n) ≡ n = omega (arith, f .fits, k) in g)))
 
@@ -275,14 +257,11 @@ minus-mag (pos a) (negsuc n) B h k = omega arith
 minus-mag (negsuc a) (negsuc n) B h k = omega (arith, sub-mag (suc n) a B k h)
 
 module _ {w : ℕ} {a b : ℤ} (h : 1 ≤ w) (f : Fits w a) (g : Fits w b) where
-  one-more : 2 ^ (w + 1 - 1) ≡ 2 ^ (w - 1) * 2
-  one-more = ap (λ n. 2 ^ n) (let e : w + 1 - 1 ≡ w = omega arith in e) ∙ half w h
-
   pub fits-add : Fits (w + 1) (a +ℤ b)
-  fits-add = record { fits = rw one-more (add-mag a b (2 ^ (w - 1)) (f .fits) (g .fits)) }
+  fits-add = record { fits = rw (pow-more w h) (add-mag a b (2 ^ (w - 1)) (f .fits) (g .fits)) }
 
   pub fits-sub : Fits (w + 1) (a -ℤ b)
-  fits-sub = record { fits = rw one-more (minus-mag a b (2 ^ (w - 1)) (f .fits) (g .fits)) }
+  fits-sub = record { fits = rw (pow-more w h) (minus-mag a b (2 ^ (w - 1)) (f .fits) (g .fits)) }
 
 -- ---- shifts
 

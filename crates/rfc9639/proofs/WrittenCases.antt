@@ -5,7 +5,7 @@ use mathlib.Core.List.{[], _∷_, _++_}
 use lib.IntN.{pos}
 use lib.ListN.{replicate}
 use Rattle.rfc9639.specs.declared.FrameSetting.{FrameSetting}
-use Rattle.rfc9639.specs.Write.{unwritten, write}
+use Rattle.rfc9639.specs.Write.{write}
 use Rattle.rfc9639.proofs.Computing.{hex, minus, computedWrite}
 
 abbrev setting : ℕ → ℕ → ℕ → ℕ → ℕ → FrameSetting

@@ -1,10 +1,10 @@
 -- The settings' tests, and which samples fit. Assumes nothing.
 use Prim.Native.Nat.{ℕ, zero, suc, _+_, _-_, _*_, _^_, _≤_, _<_}
-use native.Mathlib.Nat.{pow-suc, mul-le-mul-right}
+use native.Mathlib.Nat.{mul-le-mul-right}
 use native.Mathlib.Omega.{arith}
 use mathlib.Core.Path.{_≡_, refl, ap, sym, _∙_}
 use mathlib.Core.Bool.{Bool, true, false, cond, _&&_}
-use mathlib.Core.List.{List, [], _∷_}
+use mathlib.Core.List.{List}
 use borrow.Author.Tests.{ltb-true, ltb-false, lt-ltb, le-ltb}
 use lib.Dec.{ltb, eqb}
 use lib.IntN.{ℤ, pos, negsuc}
@@ -13,11 +13,11 @@ use lib.Seq.{drop-cons}
 use mir.Facts.{toZ-ofZ}
 use mir.Syntax.{w32}
 use mir.Val.{SFits, toZ, ofZ}
-use Rattle.rfc9639.specs.declared.ChannelAssignment.{ChannelAssignment}
 use Rattle.rfc9639.specs.declared.ChannelAssignment.the-variants.{LeftSide, SideRight, MidSide}
 use Rattle.rfc9639.specs.Header.{assignment, channelCount}
 use Rattle.rfc9639.specs.Coding.{fold}
 use Rattle.rfc9639.specs.Write.{fits, allFit}
+use Rattle.rfc9639.proofs.Widths.{pow-double}
 
 -- a side channel comes with one other
 pub count-of-pair : (code : ℕ) → 8 ≤ code → channelCount (assignment code) ≡ 2
@@ -28,14 +28,6 @@ count-of-pair code h = rw (le-ltb _ _ h) (go (eqb code 8) (eqb code 9))
     go true b = refl
     go false true = refl
     go false false = refl
-
-pub count-at-most : (code : ℕ) → code ≤ 10 → channelCount (assignment code) ≤ 8
-unfolding assignment channelCount
-count-at-most code h = go (ltb code 8) refl
-  where
-    go : (b : Bool) → ltb code 8 ≡ b → channelCount (assignment code) ≤ 8
-    go true e = rw e (let l = ltb-true code 8 e in omega arith)
-    go false e = let p = count-of-pair code (ltb-false code 8 e) in omega (arith, p)
 
 -- what is not 0 is above it
 pub some : {n : ℕ} → (n ≡ 0 → ⊥) → ltb 0 n ≡ true
@@ -63,13 +55,8 @@ same-test a b c d f g = go (ltb a b) refl
 
 pub fits-folded : (w : ℕ) → 1 ≤ w → (x : ℤ) → fits w x ≡ ltb (fold x) (2 ^ w)
 unfolding fits fold
-fits-folded w h x =
-    let double : 2 ^ w ≡ 2 ^ (w - 1) * 2 = ap (λ n. 2 ^ n) (let e : w ≡ suc (w - 1) = omega arith in e) ∙ pow-suc 2 (w - 1) in
-    go x double
-  where
-    go : (x : ℤ) → 2 ^ w ≡ 2 ^ (w - 1) * 2 → fits w x ≡ ltb (fold x) (2 ^ w)
-    go (pos n) d = same-test n (2 ^ (w - 1)) (n * 2) (2 ^ w) (λ l. omega (arith, d)) (λ l. omega (arith, d))
-    go (negsuc n) d = same-test n (2 ^ (w - 1)) (n * 2 + 1) (2 ^ w) (λ l. omega (arith, d)) (λ l. omega (arith, d))
+fits-folded w h (pos n) = same-test n (2 ^ (w - 1)) (n * 2) (2 ^ w) (λ l. omega (arith, pow-double w h)) (λ l. omega (arith, pow-double w h))
+fits-folded w h (negsuc n) = same-test n (2 ^ (w - 1)) (n * 2 + 1) (2 ^ w) (λ l. omega (arith, pow-double w h)) (λ l. omega (arith, pow-double w h))
 
 -- ---- all samples, one after the other
 

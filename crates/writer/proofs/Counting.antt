@@ -1,9 +1,8 @@
 -- The bits of the subframes, added up one after the other. Assumes nothing.
-use Prim.Native.Nat.{ℕ, zero, suc, _+_, _*_, _^_, _≤_, _<_}
-use native.Mathlib.Nat.{add-mul, one-mul, add-zero, mul-le-mul}
-use native.Mathlib.Numerals.{add-one}
+use Prim.Native.Nat.{ℕ, _+_, _*_, _^_, _≤_}
+use native.Mathlib.Nat.{add-mul, mul-le-mul}
 use native.Mathlib.Omega.{arith}
-use mathlib.Core.Path.{_≡_, refl, ap, sym, _∙_}
+use mathlib.Core.Path.{_≡_, refl, ap, _∙_}
 use mathlib.Core.List.{List, [], _∷_, _++_, map, append-nil}
 use lib.IntN.{ℤ}
 use lib.ListN.{length, length-append}
@@ -12,21 +11,14 @@ use Rattle.reading.proofs.Spelling.{row-append}
 use Rattle.rfc9639.specs.declared.ChannelAssignment.{ChannelAssignment}
 use Rattle.rfc9639.specs.declared.FrameSetting.{FrameSetting}
 use Rattle.rfc9639.specs.declared.Lane.{Lane}
-use Rattle.rfc9639.specs.declared.Lane.the-variants.{Channel, Mid, Side}
 use Rattle.rfc9639.specs.Header.{assignment, channelCount}
 use Rattle.rfc9639.specs.Coding.{counting, cost, subframeBits}
 use Rattle.rfc9639.specs.Write.{laneOf, lanes, laneWidth, laneBits, subframesBits}
+use Rattle.rfc9639.proofs.Listing.{width-within, map-counting-last}
 use Rattle.rfc9639.proofs.Bound.{lane-at-most}
 use Rattle.choice.specs.declared.Choice.{Choice}
 use Rattle.choice.specs.Choices.{choiceOf}
 use Rattle.writer.specs.Plans.{laneChoice}
-use Rattle.writer.proofs.Planning.{counting-last, map-append}
-
-pub width-at-most : (b : ℕ) (lane : Lane) → laneWidth b lane ≤ b + 1
-unfolding laneWidth
-width-at-most b (Channel c) = omega arith
-width-at-most b Mid = omega arith
-width-at-most b Side = omega arith
 
 module _ (b n : ℕ) (xs : List ℤ) (a : ChannelAssignment) where
   -- the subframes before subframe c
@@ -47,7 +39,7 @@ module _ (b n : ℕ) (xs : List ℤ) (a : ChannelAssignment) where
 
   pub choice-small : b ≤ 24 → n ≤ 65535 → {x : Choice} → (lane : Lane) → x ≡ laneChoice b n xs lane → x .bits ≤ 2 ^ 22
   choice-small h g {x} lane e =
-      let m : n * laneWidth b lane ≤ 65535 * 25 = mul-le-mul g (let w : laneWidth b lane ≤ 25 = omega (arith, width-at-most b lane) in w) in
+      let m : n * laneWidth b lane ≤ 65535 * 25 = mul-le-mul g (let w : laneWidth b lane ≤ 25 = omega (arith, width-within b lane) in w) in
       let k : x .bits ≡ length (laneBits b n xs lane) = ap (λ (y : Choice). y .bits) e ∙ choice-bits lane in
       omega (arith, k, lane-at-most b n xs lane)
 
@@ -55,9 +47,7 @@ module _ (b n : ℕ) (xs : List ℤ) (a : ChannelAssignment) where
   unfolding row
   next c =
       let l = laneBits b n xs (laneOf a c) in
-      ap (λ (k : List ℕ). length (row (laneBits b n xs) (map (laneOf a) k)))
-      (ap (counting 0) (add-one c) ∙ counting-last 0 c ∙ ap (λ (i : ℕ). counting 0 c ++ (i ∷ [])) (let z : 0 + c ≡ c = omega arith in z))
-      ∙ ap (λ (k : List Lane). length (row (laneBits b n xs) k)) (map-append (laneOf a) (counting 0 c) (c ∷ []))
+      ap (λ (k : List Lane). length (row (laneBits b n xs) k)) (map-counting-last (laneOf a) c)
       ∙ ap length (row-append (laneBits b n xs) (map (laneOf a) (counting 0 c)) (laneOf a c ∷ [])) ∙ length-append (soFar c) (l ++ [])
       ∙ ap (λ (k : List ℕ). length (soFar c) + length k) (append-nil l)
 

@@ -1,20 +1,21 @@
 -- The end of a frame: where the pen stands, and that all of it is the definition's `footed` and `padded`. Assumes nothing.
-use Prim.Native.Nat.{ℕ, zero, suc, _+_, _-_, _*_, _/_, _%_, _^_, _≤_, _<_}
+use Prim.Native.Nat.{ℕ, zero, suc, _+_, _-_, _*_, _/_, _%_, _≤_, _<_}
 use native.Mathlib.Omega.{arith}
-use mathlib.Core.Path.{_≡_, refl, ap, ap₂, sym, _∙_, subst}
-use mathlib.Core.List.{List, [], _∷_, _++_}
-use lib.ListN.{length, take, drop, replicate, length-append, length-take, length-drop, take-append-drop}
-use lib.Seq.{take-at, length-take-le}
+use mathlib.Core.Path.{_≡_, refl, ap, sym, _∙_}
+use mathlib.Core.List.{List, [], _++_}
+use lib.ListN.{length, take, drop, length-drop, take-append-drop}
+use lib.Seq.{length-take-le}
 use Rattle.reading.specs.Bytes.{bitsOfBytes}
 use Rattle.reading.specs.Spelling.{bitsOf, bytesOf, spelt}
-use Rattle.reading.proofs.Spelling.{Bits, bits-append, bits-replicate, bitsOf-zero, length-bitsOf, length-bytesOf, bits-of-packed}
+use Rattle.reading.proofs.Spelling.{Binary, bitsOf-zero, length-bitsOf}
 use Rattle.rfc9639.specs.CheckSums.{crc16}
 use Rattle.rfc9639.specs.Frame.{padding}
 use Rattle.rfc9639.specs.Write.{padded, footed}
 use Rattle.rfc9639.proofs.Bound.{length-padded}
+use Rattle.rfc9639.proofs.Whole.{bits-padded}
 use Rattle.output.specs.declared.Pen.{Pen}
 use Rattle.output.specs.Ink.{State, ink, inked, fresh}
-use Rattle.output.proofs.Inking.{Good, fresh-good, ink-good, ink-byte, inked-is, inked-length, inked-append, inked-whole, inked-part}
+use Rattle.output.proofs.Inking.{Good, ink-byte, inked-is, inked-length, inked-append, inked-before, inked-part}
 use Rattle.writer.specs.Footing.{filled, summed}
 
 -- where the pen stands once the byte begun is filled
@@ -42,7 +43,7 @@ filled-within p s {q} {t} g l e =
 
 -- ---- the definition's words
 
-module _ (bs s : List ℕ) (b : Bits bs) (room : (length bs + 7) / 8 + 2 ≤ length s) where
+module _ (bs s : List ℕ) (b : Binary bs) (room : (length bs + 7) / 8 + 2 ≤ length s) where
   m : ℕ
   m = length bs / 8
 
@@ -54,9 +55,6 @@ module _ (bs s : List ℕ) (b : Bits bs) (room : (length bs + 7) / 8 + 2 ≤ len
       ∙ inked-part (take (8 * m) bs) (drop (8 * m) bs) s m (length-take-le (8 * m) bs (omega arith)) (omega (arith, length-drop (8 * m) bs)) (omega arith)
 
   -- within the bytes
-  pub pen-good : {p : Pen} {t : List ℕ} → _≡_ {A = State} (record { pen = p; bytes = t }) (inked bs fresh s) → Good p
-  pen-good {p} {t} e = subst Good (sym (ap (λ (st : State). st .pen) (e ∙ inked-is bs fresh s fresh-good))) (ink-good bs fresh s b fresh-good)
-
   pub pen-within : {p : Pen} {t : List ℕ} → _≡_ {A = State} (record { pen = p; bytes = t }) (inked bs fresh s) → p .byte < length t
   unfolding m
   pen-within {p} {t} e =
@@ -64,19 +62,9 @@ module _ (bs s : List ℕ) (b : Bits bs) (room : (length bs + 7) / 8 + 2 ≤ len
       let l : length t ≡ length s = ap (λ (st : State). length (st .bytes)) e ∙ inked-length bs fresh s in
       omega (arith, k, l)
 
-  n : ℕ
-  n = (length bs + 7) / 8
-
-  padded-bits : Bits (padded bs)
-  unfolding padded
-  padded-bits = bits-append bs (replicate (padding (length bs)) 0) b (bits-replicate (padding (length bs)) 0 (omega arith))
-
   -- the bytes before the sum are the padded bits
   before : bitsOfBytes (take (inked (padded bs) fresh s .pen .byte) (inked (padded bs) fresh s .bytes)) ≡ padded bs
-  unfolding n
-  before =
-      ap (λ (st : State). bitsOfBytes (take (st .pen .byte) (st .bytes))) (inked-whole (padded bs) s n (length-padded bs) (omega arith))
-      ∙ ap bitsOfBytes (take-at (bytesOf n (padded bs)) (drop n s) n (length-bytesOf n (padded bs))) ∙ bits-of-packed n (padded bs) padded-bits (length-padded bs)
+  before = inked-before (padded bs) s ((length bs + 7) / 8) (bits-padded b .bits) (length-padded bs) (omega arith) refl
 
   module _ {p : Pen} {t : List ℕ} (e : _≡_ {A = State} (record { pen = p; bytes = t }) (inked bs fresh s)) where
     held : p .held ≡ length bs % 8
@@ -88,7 +76,7 @@ module _ (bs s : List ℕ) (b : Bits bs) (room : (length bs + 7) / 8 + 2 ≤ len
     fill =
         let k : ℕ = (8 - length bs % 8) % 8 in
         ap (λ (h : ℕ). inked (bitsOf ((8 - h) % 8) 0) p t) held ∙ ap (λ (st : State). inked (bitsOf k 0) (st .pen) (st .bytes)) e
-        ∙ sym (inked-append bs (bitsOf k 0) fresh s b) ∙ ap (λ (z : List ℕ). inked (bs ++ z) fresh s) (bitsOf-zero k)
+        ∙ sym (inked-append bs (bitsOf k 0) fresh s (b .bits)) ∙ ap (λ (z : List ℕ). inked (bs ++ z) fresh s) (bitsOf-zero k)
 
     -- what was written, filled up and summed, is the definition's
     pub footed-is : summed (filled p t) ≡ inked (footed (padded bs)) fresh s
@@ -96,4 +84,4 @@ module _ (bs s : List ℕ) (b : Bits bs) (room : (length bs + 7) / 8 + 2 ≤ len
     footed-is =
         ap summed fill
         ∙ ap (λ (z : List ℕ). inked (bitsOf 16 (crc16 z)) (inked (padded bs) fresh s .pen) (inked (padded bs) fresh s .bytes)) before
-        ∙ sym (inked-append (padded bs) (bitsOf 16 (crc16 (padded bs))) fresh s padded-bits)
+        ∙ sym (inked-append (padded bs) (bitsOf 16 (crc16 (padded bs))) fresh s (bits-padded b .bits))

@@ -1,23 +1,24 @@
 -- The whole frame: header, subframes and end, one behind the other. Assumes nothing.
-use Prim.Native.Nat.{ℕ, _+_, _*_, _/_, _^_, _≤_, _<_}
+use Prim.Native.Nat.{ℕ, _+_, _/_, _≤_, _<_}
 use native.Mathlib.Omega.{arith}
-use mathlib.Core.Path.{_≡_, refl, ap, ap₂, sym, _∙_}
+use mathlib.Core.Path.{_≡_, ap, _∙_}
 use mathlib.Core.List.{List, _++_}
 use lib.IntN.{ℤ}
 use lib.ListN.{length, drop, length-append}
 use Rattle.reading.specs.Spelling.{bytesOf, packed}
-use Rattle.reading.proofs.Spelling.{Bits, Binary, both}
+use Rattle.reading.proofs.Spelling.{Binary, both}
 use Rattle.rfc9639.specs.declared.FrameSetting.{FrameSetting}
-use Rattle.rfc9639.specs.Write.{headerBits, subframesBits, padded, footed, frameBits, frameBytes}
-use Rattle.rfc9639.proofs.Bound.{length-frame}
+use Rattle.rfc9639.specs.Write.{headerBits, subframesBits, frameBits, frameBytes}
+use Rattle.rfc9639.proofs.Bound.{length-frame, header-whole}
 use Rattle.rfc9639.proofs.Whole.{bits-header, bits-subframes, length-frameBits}
 use Rattle.output.specs.declared.Pen.{Pen}
 use Rattle.output.specs.Ink.{State, inked, fresh}
-use Rattle.output.proofs.Inking.{Good, inked-then, inked-whole}
+use Rattle.output.proofs.Inking.{Good, fresh-good, inked-good, inked-whole}
+use Rattle.output.proofs.Chaining.{first, inked-then}
 use Rattle.heading.specs.Heads.{headed}
-use Rattle.heading.proofs.Heading.{header-whole, headed-is}
+use Rattle.heading.proofs.Heading.{headed-is}
 use Rattle.writer.specs.Footing.{filled, summed}
-use Rattle.writer.proofs.Footed.{pen-good, pen-within, footed-is}
+use Rattle.writer.proofs.Footed.{pen-within, footed-is}
 
 -- how long it is
 pub length-is : (set : FrameSetting) (xs : List ℤ) {bits : ℕ} → bits ≡ length (subframesBits set xs)
@@ -28,9 +29,9 @@ module _ (set : FrameSetting) (xs : List ℤ) (s : List ℕ) (room : length (fra
   coded : List ℕ
   coded = headerBits set ++ subframesBits set xs
 
-  coded-bits : Bits coded
+  coded-bits : Binary coded
   unfolding coded
-  coded-bits = both (bits-header set) (bits-subframes set xs) .bits
+  coded-bits = both (bits-header set) (bits-subframes set xs)
 
   coded-room : (length coded + 7) / 8 + 2 ≤ length s
   unfolding coded
@@ -41,11 +42,10 @@ module _ (set : FrameSetting) (xs : List ℤ) (s : List ℕ) (room : length (fra
     so-far : _≡_ {A = State} (record { pen = p; bytes = u }) (inked coded fresh s)
     unfolding coded
     so-far =
-        inked-then (headerBits set) (subframesBits set xs) fresh s (bits-header set .bits)
-        (e ∙ headed-is set s (omega (arith, length-frame set xs, length-append (headerBits set) (subframesBits set xs)))) f
+        inked-then (first (bits-header set) (e ∙ headed-is set s (omega (arith, length-frame set xs, length-append (headerBits set) (subframesBits set xs))))) (subframesBits set xs) f
 
     pub begun-good : Good p
-    begun-good = pen-good coded s coded-bits coded-room so-far
+    begun-good = inked-good coded fresh s (coded-bits .bits) fresh-good so-far
 
     pub begun-within : p .byte < length u
     begun-within = pen-within coded s coded-bits coded-room so-far

@@ -1,10 +1,9 @@
 -- The choices for the subframes, one after the other, and what they come to. Assumes nothing.
-use Prim.Native.Nat.{ℕ, zero, suc, _+_, _≤_, _<_}
-use native.Mathlib.Nat.{add-zero}
+use Prim.Native.Nat.{ℕ, _+_, _≤_, _<_}
 use native.Mathlib.Numerals.{add-one}
 use native.Mathlib.Omega.{arith}
 use mathlib.Core.Path.{_≡_, refl, ap, ap₂, sym, _∙_}
-use mathlib.Core.List.{List, [], _∷_, _++_, map}
+use mathlib.Core.List.{List, [], _∷_, _++_, map, map-map}
 use lib.IntN.{ℤ}
 use lib.ListN.{length, take, set, length-set}
 use lib.Seq.{take-suc-set}
@@ -13,24 +12,10 @@ use Rattle.rfc9639.specs.declared.Lane.{Lane}
 use Rattle.rfc9639.specs.Header.{channelCount}
 use Rattle.rfc9639.specs.Coding.{counting}
 use Rattle.rfc9639.specs.Write.{laneOf, lanes, laneWidth, stored}
+use Rattle.rfc9639.proofs.Listing.{map-counting-last}
 use Rattle.choice.specs.declared.Choice.{Choice}
 use Rattle.choice.specs.Choices.{choiceOf}
 use Rattle.writer.specs.Plans.{laneChoice}
-
--- ---- lists
-
-pub counting-last : (a n : ℕ) → counting a (suc n) ≡ counting a n ++ ((a + n) ∷ [])
-unfolding counting
-counting-last a zero = ap (λ k. k ∷ []) (sym (add-zero a))
-counting-last a (suc n) = ap (λ l. a ∷ l) (counting-last (suc a) n ∙ ap (λ k. counting (suc a) n ++ (k ∷ [])) (let e : suc a + n ≡ a + suc n = omega arith in e))
-
-pub map-append : {A B : Type 0} (f : A → B) (xs ys : List A) → map f (xs ++ ys) ≡ map f xs ++ map f ys
-map-append f [] ys = refl
-map-append f (x ∷ xs) ys = ap (λ l. f x ∷ l) (map-append f xs ys)
-
-pub map-map : {A B C : Type 0} (f : A → B) (g : B → C) (xs : List A) → map g (map f xs) ≡ map (λ x. g (f x)) xs
-map-map f g [] = refl
-map-map f g (x ∷ xs) = ap (λ l. g (f x) ∷ l) (map-map f g xs)
 
 -- ---- the first c of `count` places hold what f gives for them
 
@@ -53,11 +38,8 @@ module _ {A : Type 0} (f : ℕ → A) (count : ℕ) where
       within = omega arith;
       done =
           ap (λ n. take n (set places c x)) (add-one c) ∙ take-suc-set places c x (omega (arith, p .long, p .few)) ∙ ap₂ (λ l y. l ++ (y ∷ [])) (p .done) e
-          ∙ sym (map-append f (counting 0 c) (c ∷ [])) ∙ ap (map f) (sym last) ∙ ap (λ n. map f (counting 0 n)) (sym (add-one c));
+          ∙ sym (map-counting-last f c);
     }
-      where
-        last : counting 0 (suc c) ≡ counting 0 c ++ (c ∷ [])
-        last = counting-last 0 c ∙ ap (λ k. counting 0 c ++ (k ∷ [])) (let g : 0 + c ≡ c = omega arith in g)
 
     pub at-end : count ≤ c → c ≡ count
     at-end h = omega (arith, p .within)
@@ -78,4 +60,4 @@ pub planned-all : (a : ChannelAssignment) (b n : ℕ) (xs : List ℤ) {count c :
 unfolding lanes
 planned-all a b n xs {count} {c} {places} p h e =
     ap (λ k. take k places) (sym e) ∙ end (λ i. laneChoice b n xs (laneOf a i)) count p h ∙ ap (λ k. map (λ i. laneChoice b n xs (laneOf a i)) (counting 0 k)) e
-    ∙ sym (map-map (laneOf a) (laneChoice b n xs) (counting 0 (channelCount a)))
+    ∙ sym (map-map (laneChoice b n xs) (laneOf a) (counting 0 (channelCount a)))

@@ -10,7 +10,8 @@ use lib.ListN.{length}
 use Rattle.rfc9639.specs.Coding.{fixedResiduals}
 use Rattle.rfc9639.specs.Write.{stored}
 use Rattle.rfc9639.proofs.Lengths.{length-fixedResiduals}
-use Rattle.choice.proofs.Sizes.{product-small, stored-few}
+use Rattle.rfc9639.proofs.Lengths.{stored-at-most}
+use Rattle.choice.proofs.Sizes.{product-small}
 use Rattle.choice.proofs.Tallying.{length-sums}
 use Rattle.choice.proofs.Pricing.{offered}
 use Rattle.choice.proofs.better_fixed.Statement.{statement}
@@ -30,7 +31,7 @@ module _ (s : tie.Start) where
   xs = stored (s .args .n) (s .args .samples .now) (s .args .lane)
 
   few : length xs < 2 ^ 16
-  few = omega (arith, stored-few (s .args .n) (s .args .samples .now) (s .args .lane), s .fits .n .fits)
+  few = omega (arith, stored-at-most (s .args .n) (s .args .samples .now) (s .args .lane), s .fits .n .fits)
 
 module _ (c : tie.After-stored-len) where
   abbrev s : tie.Start

@@ -1,8 +1,9 @@
 -- `write_fixed` meets its contract: the warm-up, and the residual behind it. Assumes nothing.
 use borrow.Author.Needs.{needs}
+use Rattle.reading.proofs.Spelling.{both}
 use Rattle.rfc9639.specs.Coding.{codedAs}
-use Rattle.output.proofs.Inking.{inked-then}
-use Rattle.coding.proofs.Pieces.{bits-start}
+use Rattle.rfc9639.proofs.Whole.{bits-head, bits-plain}
+use Rattle.output.proofs.Chaining.{first, inked-then}
 use Rattle.coding.proofs.write_fixed.Statement.{statement}
 use Rattle.coding.proofs.write_fixed.Tie as tie
 
@@ -22,7 +23,7 @@ returns : tie.Need-returns
 unfolding codedAs
 returns c =
     let w = c .before .before in
-    inked-then _ _ _ _ (bits-start _ _ _) (w .before .before .before .before .write-start .ensures) (w .write-residual .ensures)
+    inked-then (first (both (bits-head _) (bits-plain _ _)) (w .before .before .before .before .write-start .ensures)) _ (w .write-residual .ensures)
 
 pub write-fixed-spec : {M : Type 1} → statement M
 write-fixed-spec =

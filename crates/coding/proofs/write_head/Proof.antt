@@ -1,7 +1,8 @@
 -- `write_head` meets its contract, field by field. Assumes nothing.
 use borrow.Author.Needs.{needs}
+use Rattle.reading.proofs.Spelling.{number}
 use Rattle.rfc9639.specs.Coding.{subframeHead}
-use Rattle.coding.proofs.Pieces.{inked-three}
+use Rattle.output.proofs.Chaining.{first, behind, inked-then}
 use Rattle.coding.proofs.write_head.Statement.{statement}
 use Rattle.coding.proofs.write_head.Tie as tie
 
@@ -20,8 +21,8 @@ same-length c = search needs
 returns : tie.Need-returns
 unfolding subframeHead
 returns c =
-    let third = c .before .before in let second = third .before .before .before .before in let first = second .before .before .before .before in
-    inked-three 1 0 6 _ 1 0 _ _ (first .write-bits .ensures) (second .write-bits2 .ensures) (third .write-bits3 .ensures)
+    let w3 = c .before .before in let w2 = w3 .before .before .before .before in let w1 = w2 .before .before .before .before in
+    inked-then (behind (first (number 1 0) (w1 .write-bits .ensures)) (number 6 _) (w2 .write-bits2 .ensures)) _ (w3 .write-bits3 .ensures)
 
 pub write-head-spec : {M : Type 1} → statement M
 write-head-spec =

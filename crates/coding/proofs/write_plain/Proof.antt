@@ -8,12 +8,13 @@ use lib.ListN.{take, length-take}
 use lib.Seq.{getD-take}
 use mir.Facts.{toZ-ofZ}
 use Rattle.reading.specs.Spelling.{bitsOf}
-use Rattle.reading.proofs.Spelling.{bits-bitsOf}
+use Rattle.reading.proofs.Spelling.{number}
 use Rattle.rfc9639.specs.Coding.{plain}
 use Rattle.rfc9639.specs.Write.{stored}
 use Rattle.output.specs.Ink.{inked}
-use Rattle.coding.proofs.Rows.{Unwritten, begin, step, end}
-use Rattle.coding.proofs.Pieces.{sampleBits, lowBits-is}
+use Rattle.output.proofs.Rows.{Unwritten, begin, step, end}
+use Rattle.number.proofs.Extending.{lowBits-is}
+use Rattle.coding.proofs.Pieces.{sampleBits}
 use Rattle.coding.proofs.write_plain.Statement.{statement}
 use Rattle.coding.proofs.write_plain.Tie as tie
 
@@ -53,7 +54,7 @@ loop-again c =
     let s = l .before .before .before .before in let a = s .args in
     step (l .loop .inv) (pos 0) (rw length-take (omega arith))
     (toZ-ofZ (record { sfits = x .stored-sample .ok }) ∙ x .stored-sample .ensures ∙ sym (getD-take (a .most) (stored (a .n) (a .samples .now) (a .lane)) (l .loop .i) (pos 0) (omega arith)))
-    (bits-bitsOf (a .width) _)
+    (number (a .width) _)
     (w .write-bits .ensures ∙ ap (λ v. inked (bitsOf (a .width) v) (l .loop .p) (l .loop .out)) (w .before .low-bits .ensures ∙ lowBits-is (a .width) _ (s .pre)))
 
 same-length : tie.Need-same-length Inv-loop μ-loop

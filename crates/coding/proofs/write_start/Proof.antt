@@ -1,7 +1,7 @@
 -- `write_start` meets its contract: the header, and samples behind it. Assumes nothing.
 use borrow.Author.Needs.{needs}
-use Rattle.output.proofs.Inking.{inked-then}
-use Rattle.coding.proofs.Pieces.{bits-head}
+use Rattle.rfc9639.proofs.Whole.{bits-head}
+use Rattle.output.proofs.Chaining.{first, inked-then}
 use Rattle.coding.proofs.write_start.Statement.{statement}
 use Rattle.coding.proofs.write_start.Tie as tie
 
@@ -17,7 +17,7 @@ same-length c = search needs
 returns : tie.Need-returns
 returns c =
     let w = c .before .before in
-    inked-then _ _ _ _ (bits-head _) (w .before .before .before .before .write-head .ensures) (w .write-plain .ensures)
+    inked-then (first (bits-head _) (w .before .before .before .before .write-head .ensures)) _ (w .write-plain .ensures)
 
 pub write-start-spec : {M : Type 1} → statement M
 write-start-spec =

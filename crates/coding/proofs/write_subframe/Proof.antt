@@ -4,7 +4,7 @@ use native.Mathlib.Omega.{arith}
 use mathlib.Core.Path.{refl, sym, _∙_}
 use Rattle.rfc9639.specs.Write.{stored}
 use Rattle.output.proofs.Inking.{inked-nothing}
-use Rattle.coding.proofs.Rows.{inked-as}
+use Rattle.output.proofs.Chaining.{inked-as}
 use Rattle.coding.proofs.Pieces.{written-none, written-constant, written-verbatim, written-fixed}
 use Rattle.coding.proofs.write_subframe.Statement.{statement}
 use Rattle.coding.proofs.write_subframe.Tie as tie

@@ -1,8 +1,9 @@
 -- The first three bytes, and three calls behind. Assumes nothing.
 use borrow.Author.Needs.{needs}
+use Rattle.reading.proofs.Spelling.{number}
 use Rattle.rfc9639.specs.Write.{codeBits}
+use Rattle.output.proofs.Chaining.{first, behind, inked-then}
 use Rattle.heading.specs.Heads.{threeBits}
-use Rattle.heading.proofs.Chaining.{number, first, behind}
 use Rattle.heading.proofs.Heading.{three-binary}
 use Rattle.heading.proofs.write_codes.Statement.{statement}
 use Rattle.heading.proofs.write_codes.Tie as tie
@@ -35,8 +36,8 @@ returns c =
     let w3 = w4 .before .before .before .before in
     let w2 = w3 .before .before .before .before .before in
     let w1 = w2 .before .before .before .before .before in
-    let wrote = first _ _ (three-binary (w1 .before .before .before .args .set)) (w1 .write-three .ensures) in
-    rw (← (w3 .before .bits-code .ensures)) (behind (behind (behind wrote (number 4 _) (w2 .write-bits .ensures)) (number 3 _) (w3 .write-bits2 .ensures)) (number 1 0) (w4 .write-bits3 .ensures) .same)
+    let wrote = first (three-binary (w1 .before .before .before .args .set)) (w1 .write-three .ensures) in
+    rw (← (w3 .before .bits-code .ensures)) (inked-then (behind (behind wrote (number 4 _) (w2 .write-bits .ensures)) (number 3 _) (w3 .write-bits2 .ensures)) _ (w4 .write-bits3 .ensures))
 
 pub write-codes-spec : {M : Type 1} → statement M
 write-codes-spec =

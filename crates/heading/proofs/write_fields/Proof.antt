@@ -1,8 +1,8 @@
 -- The codes, the number and the size, one behind the other. Assumes nothing.
 use borrow.Author.Needs.{needs}
 use Rattle.rfc9639.specs.Write.{fieldBits}
-use Rattle.heading.proofs.Chaining.{first, behind}
-use Rattle.heading.proofs.Heading.{codes-binary, number-binary, size-binary}
+use Rattle.rfc9639.proofs.Whole.{bits-codes, bits-number}
+use Rattle.output.proofs.Chaining.{first, behind, inked-then}
 use Rattle.heading.proofs.write_fields.Statement.{statement}
 use Rattle.heading.proofs.write_fields.Tie as tie
 
@@ -24,8 +24,8 @@ returns c =
     let size = c .before .before in
     let number = size .before .before .before .before in
     let codes = number .before .before .before .before in
-    let wrote = first _ _ (codes-binary _) (codes .write-codes .ensures) in
-    behind (behind wrote (number-binary _) (number .write-number .ensures)) (size-binary _) (size .write-size .ensures) .same
+    let wrote = first (bits-codes _) (codes .write-codes .ensures) in
+    inked-then (behind wrote (bits-number _) (number .write-number .ensures)) _ (size .write-size .ensures)
 
 pub write-fields-spec : {M : Type 1} → statement M
 write-fields-spec =

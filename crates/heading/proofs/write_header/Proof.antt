@@ -6,7 +6,8 @@ use mathlib.Core.Path.{sym}
 use lib.ListN.{length}
 use lib.Seq.{length-take-le}
 use Rattle.rfc9639.specs.Write.{headerBits}
-use Rattle.heading.proofs.Heading.{header-whole, headed-none, pen-within, summed}
+use Rattle.rfc9639.proofs.Bound.{header-whole}
+use Rattle.heading.proofs.Heading.{headed-none, pen-within, summed}
 use Rattle.heading.proofs.write_header.Statement.{statement}
 use Rattle.heading.proofs.write_header.Tie as tie
 

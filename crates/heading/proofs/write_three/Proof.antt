@@ -1,7 +1,8 @@
 -- Four calls in a row. Assumes nothing.
 use borrow.Author.Needs.{needs}
+use Rattle.reading.proofs.Spelling.{number}
+use Rattle.output.proofs.Chaining.{first, behind, inked-then}
 use Rattle.heading.specs.Heads.{threeBits}
-use Rattle.heading.proofs.Chaining.{number, first, behind}
 use Rattle.heading.proofs.write_three.Statement.{statement}
 use Rattle.heading.proofs.write_three.Tie as tie
 
@@ -36,8 +37,8 @@ returns c =
     let w3 = w4 .before .before .before .before in
     let w2 = w3 .before .before .before .before .before in
     let w1 = w2 .before .before .before .before .before in
-    let wrote = first _ _ (number 15 0x7ffc) (rw (w1 .before .start .ensures) at (w1 .write-bits .ensures)) in
-    rw (← (w3 .before .size-code .ensures)) (behind (behind (behind wrote (number 1 _) (w2 .write-bits2 .ensures)) (number 4 _) (w3 .write-bits3 .ensures)) (number 4 0) (w4 .write-bits4 .ensures) .same)
+    let wrote = first (number 15 0x7ffc) (rw (w1 .before .start .ensures) at (w1 .write-bits .ensures)) in
+    rw (← (w3 .before .size-code .ensures)) (inked-then (behind (behind wrote (number 1 _) (w2 .write-bits2 .ensures)) (number 4 _) (w3 .write-bits3 .ensures)) _ (w4 .write-bits4 .ensures))
 
 pub write-three-spec : {M : Type 1} → statement M
 write-three-spec =

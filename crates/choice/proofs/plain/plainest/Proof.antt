@@ -6,7 +6,7 @@ use borrow.Author.Needs.{needs}
 use borrow.Author.Tests.{not-true, not-false}
 use lib.ListN.{length}
 use Rattle.rfc9639.specs.Write.{stored}
-use Rattle.choice.proofs.Sizes.{stored-few}
+use Rattle.rfc9639.proofs.Lengths.{stored-at-most}
 use Rattle.choice.proofs.Pricing.{plain-verbatim, plain-constant}
 use Rattle.choice.proofs.plain.plainest.Statement.{statement}
 use Rattle.choice.proofs.plain.plainest.Tie as tie
@@ -15,7 +15,7 @@ stored-len-requires : tie.Need-stored-len-requires
 stored-len-requires c κs = search needs
 
 few : (c : tie.After-stored-len) → c .stored-len .result < 2 ^ 16
-few c = let s = c .before in omega (arith, stored-few (s .args .n) (s .args .samples .now) (s .args .lane), c .stored-len .ensures, s .fits .n .fits)
+few c = let s = c .before in omega (arith, stored-at-most (s .args .n) (s .args .samples .now) (s .args .lane), c .stored-len .ensures, s .fits .n .fits)
 
 plain-bits-requires : tie.Need-plain-bits-requires
 plain-bits-requires c κs = few c

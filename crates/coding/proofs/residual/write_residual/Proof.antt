@@ -1,8 +1,8 @@
 -- `write_residual` meets its contract, field by field. Assumes nothing.
 use borrow.Author.Needs.{needs}
+use Rattle.reading.proofs.Spelling.{number}
 use Rattle.rfc9639.specs.Coding.{residualBits}
-use Rattle.output.proofs.Inking.{inked-then}
-use Rattle.coding.proofs.Pieces.{bits-three, inked-three}
+use Rattle.output.proofs.Chaining.{first, behind, inked-then}
 use Rattle.coding.proofs.residual.write_residual.Statement.{statement}
 use Rattle.coding.proofs.residual.write_residual.Tie as tie
 
@@ -24,11 +24,10 @@ same-length c = search needs
 returns : tie.Need-returns
 unfolding residualBits
 returns c =
-    let fourth = c .before .before in let third = fourth .before .before .before .before in let second = third .before .before .before .before in
-    let first = second .before .before .before .before in
-    inked-then _ _ _ _ (bits-three 2 0 4 0 4 _)
-    (inked-three 2 0 4 0 4 _ _ _ (first .write-bits .ensures) (second .write-bits2 .ensures) (third .write-bits3 .ensures))
-    (fourth .write-rices .ensures)
+    let w4 = c .before .before in let w3 = w4 .before .before .before .before in let w2 = w3 .before .before .before .before in
+    let w1 = w2 .before .before .before .before in
+    let wrote = behind (behind (first (number 2 0) (w1 .write-bits .ensures)) (number 4 0) (w2 .write-bits2 .ensures)) (number 4 _) (w3 .write-bits3 .ensures) in
+    inked-then wrote _ (w4 .write-rices .ensures)
 
 pub write-residual-spec : {M : Type 1} → statement M
 write-residual-spec =

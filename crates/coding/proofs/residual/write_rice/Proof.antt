@@ -1,9 +1,8 @@
 -- `write_rice` meets its contract: the quotient, and the remainder behind it. Assumes nothing.
 use borrow.Author.Needs.{needs}
 use Rattle.reading.proofs.Spelling.{bits-unary}
-use Rattle.output.proofs.Inking.{inked-then}
+use Rattle.output.proofs.Chaining.{inked-as, first, inked-then}
 use Rattle.coding.proofs.Pieces.{rice-is}
-use Rattle.coding.proofs.Rows.{inked-as}
 use Rattle.coding.proofs.residual.write_rice.Statement.{statement}
 use Rattle.coding.proofs.residual.write_rice.Tie as tie
 
@@ -26,7 +25,7 @@ returns : tie.Need-returns
 returns c =
     let b = c .before .before in let u = b .before .before .before .before in let q = u .before in let f = q .before .before in let s = f .before .before in
     inked-as _ _ (rice-is (s .args .k) (s .fits .r) (f .fold .ensures) (q .quotient .ensures))
-    (inked-then _ _ _ _ (bits-unary _) (u .write-unary .ensures) (b .write-bits .ensures))
+    (inked-then (first (record { bits = bits-unary _ }) (u .write-unary .ensures)) _ (b .write-bits .ensures))
 
 pub write-rice-spec : {M : Type 1} → statement M
 write-rice-spec =

@@ -8,8 +8,8 @@ use mir.Facts.{toZ-ofZ}
 use Rattle.rfc9639.specs.Coding.{riceBits, fixedResiduals}
 use Rattle.rfc9639.specs.Write.{stored}
 use Rattle.rfc9639.proofs.Lengths.{length-fixedResiduals}
-use Rattle.coding.proofs.Rows.{Unwritten, begin, step, end}
-use Rattle.coding.proofs.Pieces.{bits-rice}
+use Rattle.rfc9639.proofs.Whole.{bits-rice}
+use Rattle.output.proofs.Rows.{Unwritten, begin, step, end}
 use Rattle.coding.proofs.residual.write_rices.Statement.{statement}
 use Rattle.coding.proofs.residual.write_rices.Tie as tie
 

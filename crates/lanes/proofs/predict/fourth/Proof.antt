@@ -6,7 +6,8 @@ use lib.IntN.{ℤ, pos, negsuc}
 use Rattle.rfc9639.specs.Prediction.{fixedCoefficients}
 use Rattle.rfc9639.specs.Write.{stored}
 use Rattle.lanes.specs.Predicted.{predictedAt}
-use Rattle.lanes.proofs.Predicting.{bits64, Tapped, begin, step, room, end}
+use Rattle.number.proofs.Signs.{bits64}
+use Rattle.lanes.proofs.Predicting.{Tapped, begin, step, room, end}
 use Rattle.lanes.proofs.predict.fourth.Statement.{statement}
 use Rattle.lanes.proofs.predict.fourth.Tie as tie
 

@@ -5,8 +5,8 @@ use borrow.Author.Needs.{needs}
 use mathlib.Core.Path.{refl}
 use Rattle.rfc9639.specs.Header.{assignment}
 use Rattle.rfc9639.specs.Write.{laneOf}
+use Rattle.rfc9639.proofs.Listing.{channels-between}
 use Rattle.writer.specs.Plans.{laneChoice}
-use Rattle.writer.proofs.Allowing.{count-at-most}
 use Rattle.writer.proofs.Planning.{Planned, begin, step, at-end, planned-all}
 use Rattle.writer.proofs.Counting.{Counted, counted-none, counted-more, counted-all}
 use Rattle.writer.proofs.plan.plan_of.Statement.{statement}
@@ -22,7 +22,7 @@ channel-count-requires : tie.Need-channel-count-requires Inv-loop μ-loop
 channel-count-requires c κs = search needs
 
 loop-holds : tie.Need-loop-holds Inv-loop μ-loop
-loop-holds c = (begin _ _ (rw (c .channel-count .ensures) (count-at-most _ (c .before .pre .0))) _ refl, counted-none _ _ _ _)
+loop-holds c = (begin _ _ (rw (c .channel-count .ensures) (channels-between _ .1)) _ refl, counted-none _ _ _ _)
 
 cast-choose-lane : tie.Need-cast-choose-lane Inv-loop μ-loop
 cast-choose-lane c = record { fits = omega (arith, c .before .loop .inv .0 .few, c .before .loop .inv .0 .within) }

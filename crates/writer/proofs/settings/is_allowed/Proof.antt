@@ -3,7 +3,8 @@ use borrow.Author.Needs.{needs}
 use borrow.Author.Tests.{not-true, not-false, le-leb, lt-leb}
 use mathlib.Core.Path.{refl, sym, _∙_}
 use Rattle.rfc9639.specs.Write.{allowed}
-use Rattle.writer.proofs.Allowing.{some, none, product-fits, count-at-most}
+use Rattle.rfc9639.proofs.Listing.{channels-between}
+use Rattle.writer.proofs.Allowing.{some, none, product-fits}
 use Rattle.writer.proofs.settings.is_allowed.Statement.{statement}
 use Rattle.writer.proofs.settings.is_allowed.Tie as tie
 
@@ -41,7 +42,7 @@ channel-count-requires : tie.Need-channel-count-requires
 channel-count-requires c κs = search needs
 
 mul-result : tie.Need-mul-result
-mul-result c = record { fits = product-fits _ _ (rw (c .channel-count .ensures) (count-at-most _ (c .before .before .before .before .before .before .before .before .if1 .left))) (c .before .before .before .if5 .left) }
+mul-result c = record { fits = product-fits _ _ (rw (c .channel-count .ensures) (channels-between _ .1)) (c .before .before .before .if5 .left) }
 
 returns-7 : tie.Need-returns-7
 unfolding allowed

@@ -4,10 +4,10 @@ use native.Mathlib.Omega.{arith}
 use borrow.Author.Needs.{needs}
 use Rattle.rfc9639.specs.Header.{assignment}
 use Rattle.rfc9639.specs.Write.{lanes, laneBits, subframesBits}
-use Rattle.coding.proofs.Rows.{Unwritten, begin, end}
-use Rattle.writer.proofs.Laning.{planned-at, lane-next, length-lanes}
+use Rattle.rfc9639.proofs.Listing.{length-lanes, channels-between}
+use Rattle.output.proofs.Rows.{Unwritten, begin, end}
+use Rattle.writer.proofs.Laning.{planned-at, lane-next}
 use mathlib.Core.Path.{sym}
-use Rattle.writer.proofs.Allowing.{count-at-most}
 use Rattle.writer.proofs.subframes.write_subframes.Statement.{statement}
 use Rattle.writer.proofs.subframes.write_subframes.Tie as tie
 
@@ -21,7 +21,7 @@ channel-count-requires : tie.Need-channel-count-requires Inv-loop μ-loop
 channel-count-requires c κs = search needs
 
 loop-holds : tie.Need-loop-holds Inv-loop μ-loop
-loop-holds c = (rw (c .channel-count .ensures) (count-at-most _ (c .before .before .pre .0)), omega arith, begin _ _)
+loop-holds c = (rw (c .channel-count .ensures) (channels-between _ .1), omega arith, begin _ _)
 
 mul-choice : tie.Need-mul-choice Inv-loop μ-loop
 mul-choice c = record { fits = omega (arith, c .before .loop .inv .0, c .before .loop .inv .1) }

@@ -3,18 +3,14 @@
 use Prim.Native.Nat.{ℕ, suc, _+_, _≤_, _<_}
 use native.Mathlib.Numerals.{add-one}
 use mathlib.Core.Path.{_≡_, refl, ap, sym, _∙_}
-use mathlib.Core.List.{List, [], _∷_}
+use mathlib.Core.List.{List, _∷_}
 use lib.ListN.{length, getD, drop, drop-of-length-le}
 use lib.Seq.{drop-cons}
 use Rattle.reading.specs.Spelling.{row}
-use Rattle.reading.proofs.Spelling.{Bits}
+use Rattle.reading.proofs.Spelling.{Binary}
 use Rattle.output.specs.declared.Pen.{Pen}
 use Rattle.output.specs.Ink.{State, inked}
 use Rattle.output.proofs.Inking.{inked-nothing, inked-append, inked-length}
-
--- the same bits by another name
-pub inked-as : {bs cs : List ℕ} (p : Pen) (s : List ℕ) {x : State} → bs ≡ cs → x ≡ inked bs p s → x ≡ inked cs p s
-inked-as p s e d = d ∙ ap (λ (l : List ℕ). inked l p s) e
 
 -- of ys, those from i on are still to be written
 pub record Unwritten {A : Type 0} (f : A → List ℕ) (ys : List A) (p₀ : Pen) (s₀ : List ℕ) (i : ℕ) (p : Pen) (s : List ℕ) : Type 0 where
@@ -27,13 +23,13 @@ module _ {A : Type 0} {f : A → List ℕ} {ys : List A} where
 
   module _ {p₀ : Pen} {s₀ : List ℕ} {i : ℕ} {p : Pen} {s : List ℕ} (inv : Unwritten f ys p₀ s₀ i p s) where
     -- the next of them
-    pub step : (d : A) {y : A} → i < length ys → y ≡ getD ys i d → Bits (f y) → {q : Pen} {t : List ℕ}
+    pub step : (d : A) {y : A} → i < length ys → y ≡ getD ys i d → Binary (f y) → {q : Pen} {t : List ℕ}
         → _≡_ {A = State} (record { pen = q; bytes = t }) (inked (f y) p s) → Unwritten f ys p₀ s₀ (i + 1) q t
     unfolding row
     step d {y} h g b {q} {t} e = record {
       same =
           inv .same ∙ ap (λ (l : List A). inked (row f l) p s) (drop-cons ys i d h ∙ ap (λ (x : A). x ∷ drop (suc i) ys) (sym g))
-          ∙ inked-append (f y) (row f (drop (suc i) ys)) p s b
+          ∙ inked-append (f y) (row f (drop (suc i) ys)) p s (b .bits)
           ∙ ap (λ (x : State). inked (row f (drop (suc i) ys)) (x .pen) (x .bytes)) (sym e)
           ∙ ap (λ (n : ℕ). inked (row f (drop n ys)) q t) (sym (add-one i));
       long = ap (λ (x : State). length (x .bytes)) e ∙ inked-length (f y) p s ∙ inv .long;
