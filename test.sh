@@ -30,6 +30,12 @@ count() { # adds up the last line of the log, 'N passed, M failed' with a name b
         passed=$((passed + ${line% *})) failed=$((failed + ${line#* }))
     fi
 }
+# rt starts so many at a time and waits for all of them: with more than there are processors, none of these stands idle.
+# A check takes less than a gigabyte.
+if [ -z "${RT_JOBS:-}" ]; then
+    RT_JOBS=$(awk '/^MemAvailable/ { n = int($2 / 1500000); print (n > 6 ? 6 : n < 1 ? 1 : n) }' /proc/meminfo)
+    export RT_JOBS
+fi
 rt ci 2>&1 | tee "$log"
 count
 for program in runner read_probe write_probe; do

@@ -1,4 +1,5 @@
--- The definition computes: the examples that document 01 marks, published frames, and the order of the checks.
+-- Laws of the definition: widths, sums and lengths, the choice, the bound; and what it computes: the examples that document 01
+-- marks, published frames, the order of the checks, written frames.
 pub mod CheckSums
 pub mod Widths
 pub mod Magnitudes
