@@ -1,4 +1,4 @@
--- What is written is read back.
+-- What is written is read back; and some frames that are written.
 pub mod Spells
 pub mod Number
 pub mod Header
@@ -10,3 +10,4 @@ pub mod Pairs
 pub mod Lanes
 pub mod Frame
 pub mod ReadBack
+pub mod WrittenCases

@@ -1,5 +1,5 @@
 -- Laws of the definition: widths, sums and lengths, the choice, the bound; and what it computes: the examples that document 01
--- marks, published frames, the order of the checks, written frames.
+-- marks, published frames, the order of the checks.
 pub mod CheckSums
 pub mod Widths
 pub mod Magnitudes
@@ -8,7 +8,6 @@ pub mod Computing
 pub mod Marked
 pub mod Published
 pub mod Ordered
-pub mod WrittenCases
 pub mod Allowed
 pub mod Listing
 pub mod Choosing
