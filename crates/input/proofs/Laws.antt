@@ -52,11 +52,9 @@ module _ (n : ℕ) (s : List ℕ) (at : Place) (h : n ≤ 64) where
   pub read-short : {r : Bits} → means r ≡ low64 (runAt (bits n) s at) → r ≡ Short → runAt (bits n) s at ≡ shortAt
   read-short e f = read-is e f
 
--- ---- read_bit
-
-module _ (s : List ℕ) (at : Place) where
-  pub bit-is : {r r′ : Bits} → means r ≡ runAt (bits 1) s at → r ≡ r′ → runAt (bits 1) s at ≡ means r′
-  bit-is e f = sym e ∙ ap means f
+-- one bit
+pub bit-is : (s : List ℕ) (at : Place) {r r′ : Bits} → means r ≡ low64 (runAt (bits 1) s at) → r ≡ r′ → runAt (bits 1) s at ≡ means r′
+bit-is s at e f = read-is 1 s at (omega arith) e f
 
 -- ---- read_unary
 

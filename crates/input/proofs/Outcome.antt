@@ -1,11 +1,10 @@
 -- The contracts settle the outcome: any two that meet a public function's contract are equal. Assumes nothing.
 use Prim.Native.Nat.{ℕ}
 use mathlib.Core.Path.{_≡_, refl, ap, sym, _∙_}
-use mathlib.Core.Bool.{Bool}
 use mathlib.Core.List.{List}
 use Rattle.reading.specs.declared.Place.{Place}
 use Rattle.reading.specs.Reading.{bits, zeros}
-use Rattle.reading.specs.Places.{At, gotAt, refusedAt, shortAt, inside, runAt}
+use Rattle.reading.specs.Places.{At, gotAt, refusedAt, shortAt, runAt}
 use Rattle.input.specs.declared.Bits.{Bits}
 use Rattle.input.specs.declared.Bits.the-variants.{Value, Short}
 use Rattle.input.specs.Answers.{means, low64, counted}
@@ -25,12 +24,6 @@ pub means-one : (r r′ : Bits) → means r ≡ means r′ → r ≡ r′
 means-one r r′ e = sym (back-means r) ∙ ap back e ∙ back-means r′
 
 module _ (s : List ℕ) (at : Place) where
-  pub is-inside-one : (r r′ : Bool) → r ≡ inside s at → r′ ≡ inside s at → r ≡ r′
-  is-inside-one r r′ e f = e ∙ sym f
-
-  pub read-bit-one : (r r′ : Bits) → means r ≡ runAt (bits 1) s at → means r′ ≡ runAt (bits 1) s at → r ≡ r′
-  read-bit-one r r′ e f = means-one r r′ (e ∙ sym f)
-
   pub read-bits-one : (n : ℕ) (r r′ : Bits) → means r ≡ low64 (runAt (bits n) s at) → means r′ ≡ low64 (runAt (bits n) s at) → r ≡ r′
   read-bits-one n r r′ e f = means-one r r′ (e ∙ sym f)
 

@@ -29,20 +29,6 @@ on-position p m e = ap position e ∙ place-position (position p + m)
 abbrev pub bitsIn : List ℕ → Place → ℕ → ℕ
 bitsIn s p m = getD s (p .byte) 0 / 2 ^ (8 - (p .bit + m)) % 2 ^ m
 
--- ---- one bit, at a place of the input
-
-module _ (s : List ℕ) (p : Place) (i : In s p) where
-  pub bit-out : length s ≤ p .byte → shortAt ≡ runAt (bits 1) s p
-  unfolding bits answer ofAnswer
-  bit-out l = sym (runAt-ask (nextBits 1) i ∙ ap ofAnswer (bits-out s (position p) (omega arith) 0 0))
-
-  pub bit-got : {x : ℕ} {q : Place} → p .byte < length s → x ≡ bitsIn s p 1 → q ≡ placeOf (position p + 1) → gotAt x q ≡ runAt (bits 1) s p
-  unfolding bits answer ofAnswer bitsFrom
-  bit-got {x} {q} l ex eq =
-      sym
-      (runAt-ask (nextBits 1) i ∙ ap ofAnswer (chunk-step s (p .byte) (p .bit) 1 0 0 (omega (arith, i .bit)) l)
-      ∙ ap₂ gotAt (zero-add (bitsIn s p 1) ∙ sym ex) (ap placeOf (let e : 8 * p .byte + (p .bit + 1) ≡ position p + 1 = omega arith in e) ∙ sym eq))
-
 -- ---- a number, of which `left` bits are still to be read: those before made `all`, and the word `acc` of it
 pub record Unread (s : List ℕ) (n : ℕ) (p₀ : Place) (left acc : ℕ) (p : Place) : Type 0 where
   pub place : In s p

@@ -2,53 +2,17 @@
 // function answers on every argument. It promises what the definition's questions get of these bytes from that place
 // (crates/reading), and nothing of how. Bits are taken most significant first (RFC 9639 section 5).
 use reading::Place;
+use reading::is_inside;
 ghost use mathlib.Core.Path.{_≡_};
 ghost use Prim.Native.Nat.{_+_, _-_, _*_, _/_, _%_, _^_, _≤_, _<_};
 ghost use Rattle.reading.specs.Reading.{bits, zeros};
-ghost use Rattle.reading.specs.Places.{inside, position, placeOf, runAt};
+ghost use Rattle.reading.specs.Places.{position, placeOf, runAt};
 ghost use Rattle.input.specs.Answers.{means, low64, counted};
 
 // What was read and the place behind it, or that the input ends first.
 pub enum Bits {
     Value(u64, Place),
     Short,
-}
-
-// Whether this is a place of the input, or right behind it. The comparison of positions goes by parts: eight times a
-// length may not fit a usize.
-pub fn is_inside(s: &[u8], at: Place) -> bool
-    ensures { λ r. ⌜ r ≡ inside (now (s .entry)) at ⌝ }
-{
-    let byte = at.byte;
-    let bit = at.bit;
-    if 8 <= bit {
-        return false;
-    }
-    if byte < s.len() {
-        return true;
-    }
-    if s.len() < byte {
-        return false;
-    }
-    if 0 < bit {
-        return false;
-    }
-    true
-}
-
-// One bit, which lies in one byte.
-pub fn read_bit(s: &[u8], at: Place) -> Bits
-    ensures { λ r. ⌜ means r ≡ runAt (bits 1) (now (s .entry)) at ⌝ }
-{
-    if !is_inside(s, at) {
-        return Bits::Short;
-    }
-    let byte = at.byte;
-    let bit = at.bit;
-    if s.len() <= byte {
-        return Bits::Short;
-    }
-    Bits::Value(chunk(s[byte], bit, 1), skip(at, 1))
 }
 
 // The next n bits as a number, of more than 64 bits the last 64. It goes by bytes: each turn takes what is wanted of one.

@@ -6,3 +6,4 @@ pub mod Bits
 pub mod Running
 pub mod Prefixes
 pub mod Holding
+pub mod Outcome

@@ -147,7 +147,7 @@ fn decode_headed(s: &[u8], at: Place, h: SubframeHeader, width: u32, out: &mut [
 {
     let kind = h.kind;
     let wasted = h.wasted;
-    if !input::is_inside(s, at) {
+    if !reading::is_inside(s, at) {
         return Decoded::Refused(Refusal::CutShort);
     }
     if out.len() < order_of(kind) {

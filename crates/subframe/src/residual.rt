@@ -31,7 +31,7 @@ pub fn decode_verbatim(s: &[u8], at: Place, width: u32, out: &mut [i32]) -> Deco
     requires { ⌜ width ≤ 32 ⌝ }
     ensures { λ r. ⌜ means r (now (out .exit)) ≡ runAt (many (length (now (out .entry))) (sample width)) (now (s .entry)) at ⌝ }
 {
-    if !input::is_inside(s, at) {
+    if !reading::is_inside(s, at) {
         return Decoded::Refused(Refusal::CutShort);
     }
     let mut p = at;
@@ -81,7 +81,7 @@ fn decode_rice(s: &[u8], at: Place, k: u32, out: &mut [i32]) -> Decoded
     requires { ⌜ k ≤ 31 ⌝ }
     ensures { λ r. ⌜ means r (now (out .exit)) ≡ runAt (many (length (now (out .entry))) (rice k)) (now (s .entry)) at ⌝ }
 {
-    if !input::is_inside(s, at) {
+    if !reading::is_inside(s, at) {
         return Decoded::Refused(Refusal::CutShort);
     }
     let mut p = at;
@@ -129,7 +129,7 @@ fn decode_equal_partitions(
     requires { ⌜ (method < 2) × (length (now out) ≡ count * size) ⌝ }
     ensures { λ r. ⌜ means r (now (out .exit)) ≡ runAt (each (partition method) (replicate count size)) (now (s .entry)) at ⌝ }
 {
-    if !input::is_inside(s, at) {
+    if !reading::is_inside(s, at) {
         return Decoded::Refused(Refusal::CutShort);
     }
     let mut p = at;

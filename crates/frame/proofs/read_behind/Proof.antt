@@ -67,8 +67,8 @@ returns-2 c =
 fits : (c : tie.Else2) → sampleCount (start (c .before .before .before) .args .h) ≤ length (lent (c .before .before .before))
 fits c = omega (arith, count-is (c .before .before .before), c .if2 .left)
 
-read-bit-requires : tie.Need-read-bit-requires
-read-bit-requires c κs = search needs
+read-bits-requires : tie.Need-read-bits-requires
+read-bits-requires c κs = search needs
 
 enum-told : tie.Need-enum-told
 enum-told c = search needs
@@ -79,7 +79,7 @@ enum-told-2 c = search needs
 returns-3 : tie.Need-returns-3
 returns-3 c =
     let r = c .before .before in let i = r .before in let k = i .before .before .before in
-    no-first-bit (bytes k) (lent k) (headed-is k) (i .before .if1 .left) (fits i) (bit-is (bytes k) _ (r .read-bit .ensures) (c .enum-told2 .given .1))
+    no-first-bit (bytes k) (lent k) (headed-is k) (i .before .if1 .left) (fits i) (bit-is (bytes k) _ (r .read-bits .ensures) (c .enum-told2 .given .1))
 
 slice-relend-prefix-decode-body : tie.Need-slice-relend-prefix-decode-body
 slice-relend-prefix-decode-body c = search needs
@@ -137,7 +137,7 @@ same-length c = search needs
 returns-4 : tie.Need-returns-4
 returns-4 c =
     let g = c .before .before in let d = g .before .before .before in let t = told-bit d in let k = known d in
-    body-read (bytes k) (lent k) (headed-is k) (inner d .before .if1 .left) (fits (inner d)) (bit-is (bytes k) _ (t .before .before .read-bit .ensures) (t .enum-told .given .1))
+    body-read (bytes k) (lent k) (headed-is k) (inner d .before .if1 .left) (fits (inner d)) (bit-is (bytes k) _ (t .before .before .read-bits .ensures) (t .enum-told .given .1))
     (left d) (stands d) (g .decoded .given .1) (long d) (c .first-sample .ensures) (k .channel-count .ensures)
 
 same-length-2 : tie.Need-same-length-2
@@ -146,7 +146,7 @@ same-length-2 c = search needs
 returns-5 : tie.Need-returns-5
 returns-5 c =
     let g = c .before in let d = g .before .before .before in let t = told-bit d in let k = known d in
-    body-refused (bytes k) (lent k) (headed-is k) (inner d .before .if1 .left) (fits (inner d)) (bit-is (bytes k) _ (t .before .before .read-bit .ensures) (t .enum-told .given .1))
+    body-refused (bytes k) (lent k) (headed-is k) (inner d .before .if1 .left) (fits (inner d)) (bit-is (bytes k) _ (t .before .before .read-bits .ensures) (t .enum-told .given .1))
     (left d) (stands d) (g .decoded2 .given .1)
 
 pub read-behind-spec : {M : Type 1} → statement M
@@ -157,7 +157,7 @@ read-behind-spec =
     mul-count
     returns
     returns-2
-    read-bit-requires
+    read-bits-requires
     enum-told
     enum-told-2
     returns-3

@@ -32,8 +32,8 @@ bit-depth-requires c κs = search needs
 enum-known-depth : tie.Need-enum-known-depth
 enum-known-depth c = search needs
 
-read-bit-requires : tie.Need-read-bit-requires
-read-bit-requires c κs = search needs
+read-bits-requires-2 : tie.Need-read-bits-requires-2
+read-bits-requires-2 c κs = search needs
 
 enum-known-last : tie.Need-enum-known-last
 enum-known-last c = search needs
@@ -50,11 +50,11 @@ depth-is c = sym (ap depthTree (c .depth .given .1)) ∙ c .before .before .bit-
 
 returns-2 : tie.Need-returns-2
 unfolding depthAndZero
-returns-2 c = sym (bind-got (bits 3) _ _ _ (code-is (c .before .before .before .before .before .before .before .before)) ∙ known-done _ _ _ _ (depth-is (c .before .before .before .before)) ∙ bind-short (bits 1) _ _ _ (bit-is _ _ (c .before .before .read-bit .ensures) (c .enum-told2 .given .1)))
+returns-2 c = sym (bind-got (bits 3) _ _ _ (code-is (c .before .before .before .before .before .before .before .before)) ∙ known-done _ _ _ _ (depth-is (c .before .before .before .before)) ∙ bind-short (bits 1) _ _ _ (bit-is _ _ (c .before .before .read-bits2 .ensures) (c .enum-told2 .given .1)))
 
 -- the bit behind it
 zero-is : (c : tie.After-last) → runAt (bits 1) (c .before .before .before .before .before .before .before .before .before .before .before .before .args .s .now) (c .before .before .before .before .before .before .before .before .read .given .0 .1 .0) ≡ gotAt (c .last .given .0 .0) (c .last .given .0 .1 .0)
-zero-is c = bit-is _ _ (c .before .before .read-bit .ensures) (c .last .given .1)
+zero-is c = bit-is _ _ (c .before .before .read-bits2 .ensures) (c .last .given .1)
 
 returns-3 : tie.Need-returns-3
 unfolding depthAndZero
@@ -84,7 +84,7 @@ read-depth-spec =
     returns
     bit-depth-requires
     enum-known-depth
-    read-bit-requires
+    read-bits-requires-2
     enum-known-last
     enum-told-2
     returns-2

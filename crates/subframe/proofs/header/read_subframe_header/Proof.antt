@@ -8,8 +8,8 @@ use Rattle.subframe.proofs.Heads.{zero-short, zero-not, zero-is}
 use Rattle.subframe.proofs.header.read_subframe_header.Statement.{statement}
 use Rattle.subframe.proofs.header.read_subframe_header.Tie as tie
 
-read-bit-requires : tie.Need-read-bit-requires
-read-bit-requires c κs = search needs
+read-bits-requires : tie.Need-read-bits-requires
+read-bits-requires c κs = search needs
 
 enum-known-reserved : tie.Need-enum-known-reserved
 enum-known-reserved c = search needs
@@ -18,11 +18,11 @@ enum-told : tie.Need-enum-told
 enum-told c = search needs
 
 returns : tie.Need-returns
-returns c = sym (zero-short _ _ _ (bit-is _ _ (c .before .before .read-bit .ensures) (c .enum-told .given .1)))
+returns c = sym (zero-short _ _ _ (bit-is _ _ (c .before .before .read-bits .ensures) (c .enum-told .given .1)))
 
 -- the bit that was read
 reserved-got : (c : tie.After-reserved) → runAt (bits 1) (c .before .before .before .before .args .s .now) (c .before .before .before .before .args .at) ≡ gotAt (c .reserved .given .0 .0) (c .reserved .given .0 .1 .0)
-reserved-got c = bit-is _ _ (c .before .before .read-bit .ensures) (c .reserved .given .1)
+reserved-got c = bit-is _ _ (c .before .before .read-bits .ensures) (c .reserved .given .1)
 
 returns-2 : tie.Need-returns-2
 returns-2 c = sym (zero-not _ _ _ (reserved-got (c .before .before)) (c .if1 .taken))
@@ -37,7 +37,7 @@ pub read-subframe-header-spec : {M : Type 1} → statement M
 read-subframe-header-spec =
     tie.close
     (tie.spec
-    read-bit-requires
+    read-bits-requires
     enum-known-reserved
     enum-told
     returns

@@ -10,8 +10,8 @@ use Rattle.subframe.proofs.Heads.{flag-short, clear-refuses, clear-keep
 use Rattle.subframe.proofs.header.read_wasted.Statement.{statement}
 use Rattle.subframe.proofs.header.read_wasted.Tie as tie
 
-read-bit-requires : tie.Need-read-bit-requires
-read-bit-requires c κs = search needs
+read-bits-requires : tie.Need-read-bits-requires
+read-bits-requires c κs = search needs
 
 enum-known-flag : tie.Need-enum-known-flag
 enum-known-flag c = search needs
@@ -20,11 +20,11 @@ enum-told : tie.Need-enum-told
 enum-told c = search needs
 
 returns : tie.Need-returns
-returns c = sym (flag-short _ _ _ (bit-is _ _ (c .before .before .read-bit .ensures) (c .enum-told .given .1)))
+returns c = sym (flag-short _ _ _ (bit-is _ _ (c .before .before .read-bits .ensures) (c .enum-told .given .1)))
 
 -- the flag that was read
 flag-got : (c : tie.After-flag) → runAt (bits 1) (c .before .before .before .before .args .s .now) (c .before .before .before .before .args .at) ≡ gotAt (c .flag .given .0 .0) (c .flag .given .0 .1 .0)
-flag-got c = bit-is _ _ (c .before .before .read-bit .ensures) (c .flag .given .1)
+flag-got c = bit-is _ _ (c .before .before .read-bits .ensures) (c .flag .given .1)
 
 returns-2 : tie.Need-returns-2
 returns-2 c = sym (clear-refuses _ _ _ (flag-got (c .before .before .before)) (c .before .if1 .taken) (c .if2 .taken))
@@ -67,7 +67,7 @@ pub read-wasted-spec : {M : Type 1} → statement M
 read-wasted-spec =
     tie.close
     (tie.spec
-    read-bit-requires
+    read-bits-requires
     enum-known-flag
     enum-told
     returns

@@ -1,9 +1,9 @@
 -- Whether a place is inside, by its byte and its bit: each return is one case of the definition's test. Assumes nothing.
 use native.Mathlib.Omega.{arith}
 use mathlib.Core.Path.{sym}
 use Rattle.reading.proofs.Running.{in-inside, outside-bit, outside-end}
-use Rattle.input.proofs.is_inside.Statement.{statement}
-use Rattle.input.proofs.is_inside.Tie as tie
+use Rattle.reading.proofs.is_inside.Statement.{statement}
+use Rattle.reading.proofs.is_inside.Tie as tie
 
 returns : tie.Need-returns
 returns c = sym (outside-bit _ _ (c .if1 .taken))
