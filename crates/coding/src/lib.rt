@@ -52,7 +52,7 @@ fn write_plain(
     let mut i = 0;
     while i < count {
         let x = lanes::stored_sample(samples, n, lane, i);
-        p = output::write_bits(out, p, width, number::low_bits(x, width));
+        p = output::write_bits(out, p, width, signed::low_bits(x, width));
         i += 1;
     }
     p

@@ -16,6 +16,7 @@ use Rattle.rfc9639.specs.Stereo.{pairwise}
 use Rattle.rfc9639.specs.Write.{channel, stored, midOf, sideOf}
 use Rattle.rfc9639.proofs.Lengths.{length-pairwise, length-channel as channel-long}
 use Rattle.rfc9639.proofs.Widths.{Fits, of-sfits, fits-add, fits-sub}
+use Rattle.number.proofs.Machine.{widened}
 use Rattle.number.proofs.Sizes.{abs-of-fits, abs-shiftDown}
 
 -- where channel c starts
@@ -96,9 +97,9 @@ module _ {n : ℕ} {xs : List ℤ} {c : ℕ} {l : List ℤ} (e : Single n xs c l
     pub channel-inside : c * n + i < length xs
     channel-inside = omega (arith, length-channel)
 
-    pub channel-sample : SFits w32 (getD xs (c * n + i) (pos 0)) → {r : ℤ} → SFits w64 r → r ≡ bits32 (getD xs (c * n + i) (pos 0)) → Sample l i r
-    channel-sample f g d =
-        rw (toZ-ofZ g, d, toZ-ofZ f)
+    pub channel-sample : SFits w32 (getD xs (c * n + i) (pos 0)) → Sample l i (bits32 (getD xs (c * n + i) (pos 0)))
+    channel-sample f =
+        rw (widened f)
         (sym (ap (λ (t : List ℤ). getD t i (pos 0)) (e .is) ∙ channel-getD n xs c i (omega (arith, length-channel))), omega (arith, abs-of-fits (of-sfits f)))
 
 -- of the first two channels there are as many pairs as the second has

@@ -3,15 +3,9 @@ use Prim.Native.Nat.{ℕ}
 use mathlib.Core.Path.{_≡_, sym, _∙_}
 use lib.IntN.{ℤ, _+ℤ_, _-ℤ_}
 use Rattle.rfc9639.specs.Integers.{wrapped, shiftDown, shiftUp}
-use Rattle.rfc9639.specs.Residual.{unfolded}
-use Rattle.rfc9639.specs.Coding.{fold}
-use Rattle.number.specs.Extend.{signExtend, lowBits}
 
 one : {A : Type 0} {x r r′ : A} → r ≡ x → r′ ≡ x → r ≡ r′
 one p q = p ∙ sym q
-
-pub widen-one : {r r′ : ℤ} (x : ℤ) → r ≡ x → r′ ≡ x → r ≡ r′
-widen-one x = one
 
 pub low32-one : {r r′ : ℤ} (x : ℤ) → r ≡ wrapped 32 x → r′ ≡ wrapped 32 x → r ≡ r′
 low32-one x = one
@@ -22,20 +16,8 @@ wrapping-add-one a b = one
 pub wrapping-sub-one : {r r′ : ℤ} (a b : ℤ) → r ≡ wrapped 32 (a -ℤ b) → r′ ≡ wrapped 32 (a -ℤ b) → r ≡ r′
 wrapping-sub-one a b = one
 
-pub sign-extend-one : {r r′ : ℤ} (v width : ℕ) → r ≡ signExtend width v → r′ ≡ signExtend width v → r ≡ r′
-sign-extend-one v width = one
-
 pub shift-up-one : {r r′ : ℤ} (x : ℤ) (k : ℕ) → r ≡ shiftUp k x → r′ ≡ shiftUp k x → r ≡ r′
 shift-up-one x k = one
 
 pub shift-down-one : {r r′ : ℤ} (x : ℤ) (k : ℕ) → r ≡ shiftDown k x → r′ ≡ shiftDown k x → r ≡ r′
 shift-down-one x k = one
-
-pub unfold-one : {r r′ : ℤ} (n : ℕ) → r ≡ unfolded n → r′ ≡ unfolded n → r ≡ r′
-unfold-one n = one
-
-pub fold-one : {n n′ : ℕ} (r : ℤ) → n ≡ fold r → n′ ≡ fold r → n ≡ n′
-fold-one r = one
-
-pub low-bits-one : {r r′ : ℕ} (x : ℤ) (width : ℕ) → r ≡ lowBits width x → r′ ≡ lowBits width x → r ≡ r′
-low-bits-one x width = one

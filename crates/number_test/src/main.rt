@@ -1,14 +1,13 @@
-// The functions of `number` on claxon's test data and at the boundaries of each. Prints a line for each case, which ends
-// with `ok` where the answer is the one that the line names.
+// The functions of `number` and `signed` on claxon's test data and at the boundaries of each. Prints a line for each
+// case, which ends with `ok` where the answer is the one that the line names.
 use libc::STDOUT_FILENO;
 use number::low32;
 use number::shift_down;
 use number::shift_up;
-use number::sign_extend;
-use number::unfold;
-use number::widen;
 use number::wrapping_add;
 use number::wrapping_sub;
+use signed::sign_extend;
+use signed::unfold;
 
 fn line(case: &[u8], same: bool) {
     io::write_all(STDOUT_FILENO, case);
@@ -30,10 +29,6 @@ fn unfolds(case: &[u8], n: u32, wanted: i32) {
 
 fn keeps(case: &[u8], x: i64, wanted: i32) {
     line(case, low32(x) == wanted);
-}
-
-fn widens(case: &[u8], x: i32, wanted: i64) {
-    line(case, widen(x) == wanted);
 }
 
 fn adds(case: &[u8], a: i32, b: i32, wanted: i32) {
@@ -174,9 +169,6 @@ fn low_bits() {
     keeps(b"low32 -2^31-1 = 2^31-1", -2147483649, 2147483647);
     keeps(b"low32 2^63-1 = -1", 9223372036854775807, -1);
     keeps(b"low32 -2^63 = 0", -9223372036854775808, 0);
-    widens(b"widen -2^31 = -2^31", -2147483648, -2147483648);
-    widens(b"widen 2^31-1 = 2^31-1", 2147483647, 2147483647);
-    widens(b"widen -1 = -1", -1, -1);
 }
 
 fn wrapping() {

@@ -72,5 +72,5 @@ pub fn number_of(a: u8, b: u8, c: u8, d: u8) -> u64
 pub fn sample_of(a: u8, b: u8, c: u8, d: u8) -> i32
     ensures { λ r. ⌜ r ≡ wrapped 32 (pos (a + 256 * (b + 256 * (c + 256 * d)))) ⌝ }
 {
-    number::low32(number::sign_extend(number_of(a, b, c, d), 32))
+    number::low32(signed::sign_extend(number_of(a, b, c, d), 32))
 }

@@ -18,8 +18,8 @@ use Rattle.input.specs.declared.Bits.{Bits}
 use Rattle.input.specs.declared.Bits.the-variants.{Value, Short}
 use Rattle.input.specs.Answers.{means, low64, count, counted}
 use Rattle.input.proofs.Laws.{read-got, read-short, unary-got, unary-short, count-low, count-below}
-use Rattle.number.specs.Extend.{signExtend}
-use Rattle.number.proofs.Extending.{extend-signed}
+use Rattle.signed.specs.Extend.{signExtend}
+use Rattle.signed.proofs.Extending.{extend-signed}
 use Rattle.rfc9639.specs.Integers.{signed, wrapped, sample}
 use Rattle.rfc9639.specs.Residual.{folded, unfolded, rice}
 use Rattle.rfc9639.proofs.Widths.{signed-fits, fits-mono, wrapped-same}

@@ -23,7 +23,7 @@ pub fn read_sample(s: &[u8], at: Place, width: u32) -> Sample
     let Bits::Value(v, p) = read else {
         return Sample::Short;
     };
-    Sample::Value(number::low32(number::sign_extend(v, width)), p)
+    Sample::Value(number::low32(signed::sign_extend(v, width)), p)
 }
 
 // As many samples as `out` has (RFC 9639 section 9.2.4).
@@ -73,7 +73,7 @@ fn read_rice(s: &[u8], at: Place, k: u32) -> Sample
     let Bits::Value(r, next) = low else {
         return Sample::Short;
     };
-    Sample::Value(number::unfold(folded(q, r, k)), next)
+    Sample::Value(signed::unfold(folded(q, r, k)), next)
 }
 
 // As many residuals as `out` has.

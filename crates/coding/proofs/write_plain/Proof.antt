@@ -13,7 +13,7 @@ use Rattle.rfc9639.specs.Coding.{plain}
 use Rattle.rfc9639.specs.Write.{stored}
 use Rattle.output.specs.Ink.{inked}
 use Rattle.output.proofs.Rows.{Unwritten, begin, step, end}
-use Rattle.number.proofs.Extending.{lowBits-is}
+use Rattle.signed.proofs.Extending.{lowBits-is}
 use Rattle.coding.proofs.Pieces.{sampleBits}
 use Rattle.coding.proofs.write_plain.Statement.{statement}
 use Rattle.coding.proofs.write_plain.Tie as tie

@@ -7,8 +7,8 @@ use lib.IntN.{pos}
 use mir.Facts.{toZ-ofZ}
 use Rattle.rfc9639.specs.Integers.{low, wrapped}
 use Rattle.rfc9639.proofs.Widths.{wrapped-wrapped}
-use Rattle.number.specs.Extend.{signExtend}
-use Rattle.number.proofs.Extending.{extend-low}
+use Rattle.signed.specs.Extend.{signExtend}
+use Rattle.signed.proofs.Extending.{extend-low}
 use Rattle.records.proofs.sample_of.Statement.{statement}
 use Rattle.records.proofs.sample_of.Tie as tie
 

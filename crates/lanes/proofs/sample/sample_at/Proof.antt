@@ -3,8 +3,12 @@ use Prim.Native.Nat.{_+_, _*_, _<_}
 use native.Mathlib.Omega.{arith}
 use mathlib.Core.Path.{_≡_}
 use borrow.Author.Needs.{needs}
-use lib.ListN.{length}
+use lib.IntN.{pos}
+use lib.ListN.{length, getD}
+use mir.Syntax.{w32}
+use mir.Val.{SFits}
 use Rattle.rfc9639.specs.declared.Lane.the-variants.{Mid, Side}
+use Rattle.number.proofs.Machine.{widen-fits}
 use Rattle.lanes.proofs.Storing.{stored-channel, stored-mid, stored-side, channel-inside, channel-sample, both-inside, both-sample, mid-abs, side-abs}
 use Rattle.lanes.proofs.sample.sample_at.Statement.{statement}
 use Rattle.lanes.proofs.sample.sample_at.Tie as tie
@@ -18,29 +22,33 @@ inside c = let s = c .before .before .before in channel-inside (stored-channel (
 enum-known-lane : tie.Need-enum-known-lane
 enum-known-lane c = search needs
 
-cast-widen : tie.Need-cast-widen
-cast-widen c = search needs
+cast-result : tie.Need-cast-result
+cast-result c = search needs
 
-mul-widen : tie.Need-mul-widen
-mul-widen c = omega (arith, inside c)
+mul-result : tie.Need-mul-result
+mul-result c = omega (arith, inside c)
 
-add-widen : tie.Need-add-widen
-add-widen c = omega (arith, inside c)
+add-result : tie.Need-add-result
+add-result c = omega (arith, inside c)
 
-mul-widen-2 : tie.Need-mul-widen-2
-mul-widen-2 c = omega (arith, inside c)
+mul-result-2 : tie.Need-mul-result-2
+mul-result-2 c = omega (arith, inside c)
 
-shared-slice-copy-out-widen : tie.Need-shared-slice-copy-out-widen
-shared-slice-copy-out-widen c = inside c
+shared-slice-copy-out-result : tie.Need-shared-slice-copy-out-result
+shared-slice-copy-out-result c = inside c
 
-widen-requires : tie.Need-widen-requires
-widen-requires c κs = search needs
+-- what is read is an i32
+fits : (c : tie.After-result)
+    → let l = c .before .before in let s = l .before .before in SFits w32 (getD (s .args .samples .now) (l .lane .given .0 .0 * s .args .n + s .args .i) (pos 0))
+fits c = record { sfits = search needs }
+
+cast-result-2 : tie.Need-cast-result-2
+cast-result-2 c = widen-fits (fits c)
 
 returns : tie.Need-returns
 returns c =
-    let l = c .before .before .before in let s = l .before .before in
-    channel-sample (stored-channel (s .args .n) (s .args .samples .now) (l .lane .given .1)) (s .args .i) (s .pre)
-    (record { sfits = search needs }) (record { sfits = c .widen .ok }) (c .widen .ensures)
+    let l = c .before .before in let s = l .before .before in
+    channel-sample (stored-channel (s .args .n) (s .args .samples .now) (l .lane .given .1)) (s .args .i) (s .pre) (fits c)
 
 -- ---- pairs
 
@@ -110,12 +118,12 @@ sample-at-spec =
     tie.close
     (tie.spec
     enum-known-lane
-    cast-widen
-    mul-widen
-    add-widen
-    mul-widen-2
-    shared-slice-copy-out-widen
-    widen-requires
+    cast-result
+    mul-result
+    add-result
+    mul-result-2
+    shared-slice-copy-out-result
+    cast-result-2
     enum-told
     mul-mid
     shared-slice-copy-out-mid

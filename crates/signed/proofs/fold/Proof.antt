@@ -1,9 +1,9 @@
 -- `fold` meets its contract, by the sign: twice a magnitude of 63 bits fits. Assumes nothing.
 use native.Mathlib.Omega.{arith}
 use borrow.Author.Needs.{needs}
-use Rattle.number.proofs.Signs.{mag-lt, fold-pos, fold-negsuc}
-use Rattle.number.proofs.fold.Statement.{statement}
-use Rattle.number.proofs.fold.Tie as tie
+use Rattle.signed.proofs.Signs.{mag-lt, fold-pos, fold-negsuc}
+use Rattle.signed.proofs.fold.Statement.{statement}
+use Rattle.signed.proofs.fold.Tie as tie
 
 magnitude-requires : tie.Need-magnitude-requires
 magnitude-requires c κs = search needs

@@ -7,9 +7,9 @@ use borrow.Author.Tests.{eq-eqb, ne-eqb}
 use mir.Syntax.{w32}
 use mir.Facts.{toZ-pos}
 use Rattle.rfc9639.specs.Residual.{unfolded}
 use Rattle.number.proofs.Machine.{minus-fits, minus-is}
-use Rattle.number.proofs.unfold.Statement.{statement}
-use Rattle.number.proofs.unfold.Tie as tie
+use Rattle.signed.proofs.unfold.Statement.{statement}
+use Rattle.signed.proofs.unfold.Tie as tie
 
 half : (c : tie.Start) → c .args .n / 2 < 2 ^ 31
 half c = omega (arith, c .fits .n .fits)

@@ -5,11 +5,11 @@ use mathlib.Core.Path.{sym, ap, _∙_}
 use borrow.Author.Needs.{needs}
 use mir.Facts.{toZ-ofZ}
 use Rattle.rfc9639.specs.Integers.{shiftDown}
-use Rattle.number.specs.Extend.{signExtend}
+use Rattle.signed.specs.Extend.{signExtend}
 use Rattle.number.proofs.Machine.{shifted}
-use Rattle.number.proofs.Extending.{extend-none, extend-all, extend-shifts}
-use Rattle.number.proofs.sign_extend.Statement.{statement}
-use Rattle.number.proofs.sign_extend.Tie as tie
+use Rattle.signed.proofs.Extending.{extend-none, extend-all, extend-shifts}
+use Rattle.signed.proofs.sign_extend.Statement.{statement}
+use Rattle.signed.proofs.sign_extend.Tie as tie
 
 returns : tie.Need-returns
 returns c = sym (ap (λ w. signExtend w (c .before .args .v)) (c .if1 .taken) ∙ extend-none (c .before .args .v))

@@ -1,7 +1,7 @@
 -- `magnitude` meets its contract, by the sign. Assumes nothing.
-use Rattle.number.proofs.Signs.{cast-pos, cast-pos-is, minus-fits, cast-minus, cast-minus-is}
-use Rattle.number.proofs.magnitude.Statement.{statement}
-use Rattle.number.proofs.magnitude.Tie as tie
+use Rattle.signed.proofs.Signs.{cast-pos, cast-pos-is, minus-fits, cast-minus, cast-minus-is}
+use Rattle.signed.proofs.magnitude.Statement.{statement}
+use Rattle.signed.proofs.magnitude.Tie as tie
 
 cast-result : tie.Need-cast-result
 cast-result c = cast-pos (c .before .fits .x) (c .if1 .taken)

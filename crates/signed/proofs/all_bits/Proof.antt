@@ -1,8 +1,8 @@
 -- `all_bits` meets its contract, by the sign. Assumes nothing.
 use borrow.Author.Needs.{needs}
-use Rattle.number.proofs.Signs.{low-pos, low-negsuc}
-use Rattle.number.proofs.all_bits.Statement.{statement}
-use Rattle.number.proofs.all_bits.Tie as tie
+use Rattle.signed.proofs.Signs.{low-pos, low-negsuc}
+use Rattle.signed.proofs.all_bits.Statement.{statement}
+use Rattle.signed.proofs.all_bits.Tie as tie
 
 magnitude-requires : tie.Need-magnitude-requires
 magnitude-requires c κs = search needs

@@ -1,8 +1,8 @@
 -- `low_bits` meets its contract, by the width. Assumes nothing.
 use borrow.Author.Needs.{needs}
-use Rattle.number.proofs.Extending.{low-bits-all, divisor-some, low-bits-some}
-use Rattle.number.proofs.low_bits.Statement.{statement}
-use Rattle.number.proofs.low_bits.Tie as tie
+use Rattle.signed.proofs.Extending.{low-bits-all, divisor-some, low-bits-some}
+use Rattle.signed.proofs.low_bits.Statement.{statement}
+use Rattle.signed.proofs.low_bits.Tie as tie
 
 all-bits-requires : tie.Need-all-bits-requires
 all-bits-requires c κs = search needs
