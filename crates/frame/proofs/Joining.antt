@@ -17,7 +17,7 @@ use Rattle.rfc9639.specs.Integers.{low, wrapped, shiftDown}
 use Rattle.rfc9639.specs.Stereo.{doubled, leftOf, rightOf, leftOfMid, rightOfMid, pairwise, joined}
 use Rattle.rfc9639.proofs.Widths.{of-sfits, to-sfits, fits-mono, fits-mul, low-lt, shiftDown-fits, wrapped-same}
 use Rattle.rfc9639.proofs.Listing.{pairwise-first, pairwise-second}
-use Rattle.number.proofs.Machine.{widened}
+use Rattle.rfc9639.proofs.Machine.{widened}
 use Rattle.number.proofs.Sizes.{sfits-of-abs, abs-of-fits, abs-mul, add-fits}
 
 -- ---- pairs of which one is kept

@@ -16,7 +16,7 @@ use Rattle.rfc9639.specs.Stereo.{pairwise}
 use Rattle.rfc9639.specs.Write.{channel, stored, midOf, sideOf}
 use Rattle.rfc9639.proofs.Lengths.{length-pairwise, length-channel as channel-long}
 use Rattle.rfc9639.proofs.Widths.{Fits, of-sfits, fits-add, fits-sub}
-use Rattle.number.proofs.Machine.{widened}
+use Rattle.rfc9639.proofs.Machine.{widened}
 use Rattle.number.proofs.Sizes.{abs-of-fits, abs-shiftDown}
 
 -- where channel c starts

@@ -1,4 +1,3 @@
--- Laws for callers: the machine's signed operations beside the definition's, sizes of sums and products.
-pub mod Machine
+-- Laws for callers: sizes of sums and products.
 pub mod Sizes
 pub mod Outcome

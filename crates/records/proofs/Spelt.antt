@@ -14,7 +14,7 @@ use mir.Facts.{toZ-ofZ}
 use mir.Val.{Fits, SFits, toZ, ofZ}
 use Rattle.rfc9639.specs.Integers.{low}
 use Rattle.rfc9639.proofs.Widths.{low-lt}
-use Rattle.number.proofs.Machine.{widened}
+use Rattle.rfc9639.proofs.Machine.{widened}
 
 -- one element more
 pub also : {A : Type 0} {x y : A} {xs ys : List A} → x ≡ y → xs ≡ ys → x ∷ xs ≡ y ∷ ys

@@ -1,8 +1,9 @@
--- Laws of the definition: widths, sums and lengths, the choice, the bound; and what it computes: the examples that document 01
--- marks, published frames, the order of the checks.
+-- Laws of the definition: widths and what the machine makes of them, sums and lengths, the choice, the bound; and what it
+-- computes: the examples that document 01 marks, published frames, the order of the checks.
 pub mod CheckSums
 pub mod Widths
 pub mod Magnitudes
+pub mod Machine
 pub mod Lengths
 pub mod Computing
 pub mod Marked

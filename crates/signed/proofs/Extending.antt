@@ -15,7 +15,7 @@ use Rattle.reading.proofs.Bits.{one-shifted}
 use Rattle.rfc9639.specs.Integers.{signed, low, wrapped, shiftDown}
 use Rattle.rfc9639.proofs.Widths.{low-low}
 use Rattle.signed.specs.Extend.{signExtend, lowBits}
-use Rattle.number.proofs.Machine.{up-and-down}
+use Rattle.rfc9639.proofs.Machine.{up-and-down}
 
 module _ (w v : ℕ) where
   pub extend-low : w ≤ 63 → signExtend w v ≡ signed w (v % 2 ^ w)

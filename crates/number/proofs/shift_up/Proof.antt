@@ -5,7 +5,7 @@ use Prim.Native.Nat.{_^_}
 use mir.Syntax.{w32}
 use Rattle.rfc9639.specs.Integers.{signed, wrapped, shiftUp}
 use Rattle.rfc9639.proofs.Widths.{low-of, alike-mul, shiftUp-out}
-use Rattle.number.proofs.Machine.{toZ-signed, ofZ-alike}
+use Rattle.rfc9639.proofs.Machine.{toZ-signed, ofZ-alike}
 use Rattle.number.proofs.shift_up.Statement.{statement}
 use Rattle.number.proofs.shift_up.Tie as tie
 

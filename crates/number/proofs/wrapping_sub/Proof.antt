@@ -6,7 +6,7 @@ use lib.IntN.{ℤ, _-ℤ_}
 use mir.Facts.{toZ-ofZ}
 use Rattle.rfc9639.specs.Integers.{wrapped}
 use Rattle.rfc9639.proofs.Widths.{Fits, of-sfits, fits-sub}
-use Rattle.number.proofs.Machine.{widen-fits, combined-fits, combined}
+use Rattle.rfc9639.proofs.Machine.{widen-fits, combined-fits, combined}
 use Rattle.number.proofs.wrapping_sub.Statement.{statement}
 use Rattle.number.proofs.wrapping_sub.Tie as tie
 

@@ -3,7 +3,7 @@ use native.Mathlib.Omega.{arith}
 use mathlib.Core.Path.{ap}
 use lib.IntN.{natAbs}
 use Rattle.rfc9639.proofs.Widths.{low-lt}
-use Rattle.number.proofs.Machine.{widen-fits}
+use Rattle.rfc9639.proofs.Machine.{widen-fits}
 use Rattle.records.proofs.Spelt.{cast-pos, kept, raised-fits, raised-is}
 use Rattle.records.proofs.bits_of.Statement.{statement}
 use Rattle.records.proofs.bits_of.Tie as tie

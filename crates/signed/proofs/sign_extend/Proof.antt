@@ -6,7 +6,7 @@ use borrow.Author.Needs.{needs}
 use mir.Facts.{toZ-ofZ}
 use Rattle.rfc9639.specs.Integers.{shiftDown}
 use Rattle.signed.specs.Extend.{signExtend}
-use Rattle.number.proofs.Machine.{shifted}
+use Rattle.rfc9639.proofs.Machine.{shifted}
 use Rattle.signed.proofs.Extending.{extend-none, extend-all, extend-shifts}
 use Rattle.signed.proofs.sign_extend.Statement.{statement}
 use Rattle.signed.proofs.sign_extend.Tie as tie

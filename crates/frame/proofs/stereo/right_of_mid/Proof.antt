@@ -2,7 +2,7 @@
 use borrow.Author.Needs.{needs}
 use lib.IntN.{ℤ, _-ℤ_}
 use Rattle.rfc9639.specs.Stereo.{rightOfMid}
-use Rattle.number.proofs.Machine.{widen-fits}
+use Rattle.rfc9639.proofs.Machine.{widen-fits}
 use Rattle.frame.proofs.Joining.{half-of}
 use Rattle.frame.proofs.stereo.right_of_mid.Statement.{statement}
 use Rattle.frame.proofs.stereo.right_of_mid.Tie as tie

@@ -4,7 +4,7 @@ use borrow.Author.Needs.{needs}
 use mir.Facts.{toZ-ofZ}
 use Rattle.rfc9639.specs.Integers.{shiftDown}
 use Rattle.rfc9639.specs.Write.{midOf}
-use Rattle.number.proofs.Machine.{widen-fits, combined-fits, combined}
+use Rattle.rfc9639.proofs.Machine.{widen-fits, combined-fits, combined}
 use Rattle.lanes.proofs.Storing.{sumOf, sum-fits}
 use Rattle.lanes.proofs.sample.mid.Statement.{statement}
 use Rattle.lanes.proofs.sample.mid.Tie as tie

@@ -8,7 +8,7 @@ use lib.ListN.{length, getD}
 use mir.Syntax.{w32}
 use mir.Val.{SFits}
 use Rattle.rfc9639.specs.declared.Lane.the-variants.{Mid, Side}
-use Rattle.number.proofs.Machine.{widen-fits}
+use Rattle.rfc9639.proofs.Machine.{widen-fits}
 use Rattle.lanes.proofs.Storing.{stored-channel, stored-mid, stored-side, channel-inside, channel-sample, both-inside, both-sample, mid-abs, side-abs}
 use Rattle.lanes.proofs.sample.sample_at.Statement.{statement}
 use Rattle.lanes.proofs.sample.sample_at.Tie as tie

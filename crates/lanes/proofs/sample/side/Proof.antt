@@ -1,6 +1,6 @@
 -- `side` meets its contract: the difference of two i32 fits 33 bits. Assumes nothing.
 use Rattle.rfc9639.specs.Write.{sideOf}
-use Rattle.number.proofs.Machine.{widen-fits, combined-fits, combined}
+use Rattle.rfc9639.proofs.Machine.{widen-fits, combined-fits, combined}
 use Rattle.lanes.proofs.Storing.{side-fits}
 use Rattle.lanes.proofs.sample.side.Statement.{statement}
 use Rattle.lanes.proofs.sample.side.Tie as tie

@@ -4,7 +4,7 @@ use lib.IntN.{ℤ, _+ℤ_, _*ℤ_}
 use mir.Syntax.{w32, w64}
 use mir.Val.{toZ, ofZ}
 use mir.Facts.{toZ-ofZ}
-use Rattle.number.proofs.Machine.{widen-fits, widened}
+use Rattle.rfc9639.proofs.Machine.{widen-fits, widened}
 use Rattle.number.proofs.Sizes.{product-fits, mul-add-fits, sample-fits}
 use Rattle.subframe.proofs.predict.mul_add.Statement.{statement}
 use Rattle.subframe.proofs.predict.mul_add.Tie as tie

@@ -8,7 +8,7 @@ use mir.Val.{toZ, ofZ}
 use mir.Facts.{toZ-ofZ}
 use Rattle.rfc9639.specs.Integers.{wrapped, shiftDown}
 use Rattle.rfc9639.proofs.Widths.{of-sfits}
-use Rattle.number.proofs.Machine.{widen-fits, widened}
+use Rattle.rfc9639.proofs.Machine.{widen-fits, widened}
 use Rattle.number.proofs.Sizes.{abs-shiftDown, abs-of-fits, add-fits}
 use Rattle.subframe.proofs.predict.restore.Statement.{statement}
 use Rattle.subframe.proofs.predict.restore.Tie as tie

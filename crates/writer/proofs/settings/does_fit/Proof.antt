@@ -5,7 +5,7 @@ use mathlib.Core.Path.{sym, _∙_, ap, ap₂}
 use lib.Dec.{ltb}
 use Rattle.reading.proofs.Bits.{one-shifted}
 use Rattle.rfc9639.specs.Coding.{fold}
-use Rattle.number.proofs.Machine.{widen-fits, widened}
+use Rattle.rfc9639.proofs.Machine.{widen-fits, widened}
 use Rattle.writer.proofs.Allowing.{fits-folded}
 use Rattle.writer.proofs.settings.does_fit.Statement.{statement}
 use Rattle.writer.proofs.settings.does_fit.Tie as tie
