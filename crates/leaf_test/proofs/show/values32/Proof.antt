@@ -2,8 +2,8 @@
 use Prim.Native.Nat.{_≤_, _-_}
 use borrow.Author.Needs.{needs}
 use lib.ListN.{length}
-use Rattle.subframe_test.proofs.samples.Statement.{statement}
-use Rattle.subframe_test.proofs.samples.Tie as tie
+use Rattle.leaf_test.proofs.show.values32.Statement.{statement}
+use Rattle.leaf_test.proofs.show.values32.Tie as tie
 
 abbrev Inv-loop : tie.InvT-loop
 Inv-loop xs i₀ i = i ≤ length xs
@@ -14,14 +14,14 @@ abbrev μ-loop : tie.MeasureT-loop
 loop-holds : tie.Need-loop-holds Inv-loop μ-loop
 loop-holds c = search needs
 
-mul-sample : tie.Need-mul-sample Inv-loop μ-loop
-mul-sample c = search needs
+mul-value32 : tie.Need-mul-value32 Inv-loop μ-loop
+mul-value32 c = search needs
 
-shared-slice-copy-out-sample : tie.Need-shared-slice-copy-out-sample Inv-loop μ-loop
-shared-slice-copy-out-sample c = search needs
+shared-slice-copy-out-value32 : tie.Need-shared-slice-copy-out-value32 Inv-loop μ-loop
+shared-slice-copy-out-value32 c = search needs
 
-sample-requires : tie.Need-sample-requires Inv-loop μ-loop
-sample-requires c κs = search needs
+value32-requires : tie.Need-value32-requires Inv-loop μ-loop
+value32-requires c κs = search needs
 
 add-i : tie.Need-add-i Inv-loop μ-loop
 add-i c = search needs
@@ -35,16 +35,16 @@ loop-again c = search needs
 returns : tie.Need-returns Inv-loop μ-loop
 returns c = search needs
 
-pub samples-spec : {M : Type 1} → statement M
-samples-spec =
+pub values32-spec : {M : Type 1} → statement M
+values32-spec =
     tie.close
     (tie.spec
     Inv-loop
     μ-loop
     loop-holds
-    mul-sample
-    shared-slice-copy-out-sample
-    sample-requires
+    mul-value32
+    shared-slice-copy-out-value32
+    value32-requires
     add-i
     loop-less
     loop-again

@@ -1,0 +1,81 @@
+// The functions of `block` on claxon's test data, and each of their refusals. A line has the block as channels x size,
+// a channel and an index; then what all four answer: the channel's part, its samples, the sample and the pair.
+use crate::show::equals;
+use crate::show::mark;
+use crate::show::put;
+use crate::show::refused;
+use crate::show::text;
+use crate::show::value32;
+use crate::show::values32;
+use block::Block;
+use block::PairAt;
+use block::Part;
+use block::SampleAt;
+use block::channel;
+use block::channel_part;
+use block::pair;
+use block::sample;
+
+fn at(s: &[i32], channels: usize, size: usize, c: usize, i: usize) {
+    text(b"block");
+    put(b' ', channels as u64);
+    put(b'x', size as u64);
+    put(b' ', c as u64);
+    put(b' ', i as u64);
+    equals();
+    let b = Block { channels, size };
+    let r = channel_part(s, b, c);
+    match r {
+        Part::Range(start, end) => {
+            put(b' ', start as u64);
+            mark(b'.');
+            put(b'.', end as u64);
+        }
+        Part::Refused(e) => refused(e),
+    }
+    mark(b',');
+    values32(channel(s, b, c));
+    mark(b',');
+    let r = sample(s, b, c, i);
+    match r {
+        SampleAt::Value(x) => value32(x),
+        SampleAt::Refused(e) => refused(e),
+    }
+    mark(b',');
+    let r = pair(s, b, i);
+    match r {
+        PairAt::Values(left, right) => {
+            value32(left);
+            value32(right);
+        }
+        PairAt::Refused(e) => refused(e),
+    }
+    mark(b'\n');
+}
+
+pub fn blocks() {
+    // claxon's samples, in both of its tests of a block
+    let s: &[i32] = &[2, 3, 5, 7, 11, 13, 17, 19, 23, 29, 31, 37, 41, 43, 47];
+    // its verify_block_sample
+    at(s, 3, 5, 0, 2);
+    at(s, 3, 5, 1, 3);
+    at(s, 3, 5, 2, 4);
+    // its verify_block_stereo_samples_iterator
+    at(s, 2, 3, 0, 0);
+    at(s, 2, 3, 0, 1);
+    at(s, 2, 3, 0, 2);
+    at(s, 2, 3, 0, 3);
+    // a block of no samples
+    at(s, 3, 0, 1, 0);
+    // a channel out of range, samples fewer than the block has, and a block of 2^64 samples, which are 0 in 64 bits
+    at(s, 3, 5, 3, 0);
+    at(s, 4, 4, 0, 0);
+    at(s, 0x1_0000_0000, 0x1_0000_0000, 0, 0);
+    // an index out of range
+    at(s, 3, 5, 0, 5);
+    // no two channels; and two, with samples fewer than the block has
+    at(s, 1, 5, 0, 0);
+    at(s, 3, 5, 0, 0);
+    at(s, 2, 8, 0, 0);
+    at(s, 2, 0x8000_0000_0000_0000, 0, 0);
+}

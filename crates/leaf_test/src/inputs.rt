@@ -1,0 +1,103 @@
+// claxon's tests of bit reading (input.rs), with its data and its steps, and one of what claxon leaves undefined. The
+// data has a line. Then each step has one: `b` for one bit, b17 for `read_bits` of 17 and `u` for `read_unary`, the
+// place that it starts at, what it got and the place behind it; nothing where the input is short.
+use crate::show::bytes;
+use crate::show::equals;
+use crate::show::mark;
+use crate::show::part;
+use crate::show::place;
+use crate::show::put;
+use input::Bits;
+use input::read_bits;
+use input::read_unary;
+use reading::Place;
+
+// A step is a number of bits, or a letter: for one bit, or of the function that takes no number.
+fn read(s: &[u8], at: Place, n: u8) -> Bits {
+    if n == b'b' {
+        mark(n);
+        return read_bits(s, at, 1);
+    }
+    if n == b'u' {
+        mark(n);
+        return read_unary(s, at);
+    }
+    put(b'b', n as u64);
+    read_bits(s, at, n as u32)
+}
+
+// One step, and the place to go on from.
+fn step(s: &[u8], at: Place, n: u8) -> Place {
+    let mut next = at;
+    let r = read(s, at, n);
+    place(at);
+    equals();
+    if let Bits::Value(v, p) = r {
+        put(b' ', v);
+        place(p);
+        next = p;
+    }
+    mark(b'\n');
+    next
+}
+
+// Some steps from a place on, each from the place behind the one before it.
+fn steps(s: &[u8], ns: &[u8], byte: usize, bit: usize) {
+    bytes(s);
+    mark(b'\n');
+    let mut p = Place { byte, bit };
+    let mut i = 0;
+    while i < ns.len() {
+        p = step(s, p, ns[i]);
+        i += 1;
+    }
+}
+
+// A part of the data, a part of the steps, and the place of the first.
+fn reads(
+    data: &[u8],
+    from: usize,
+    to: usize,
+    ns: &[u8],
+    first: usize,
+    end: usize,
+    byte: usize,
+    bit: usize,
+) {
+    steps(part(data, from, to), part(ns, first, end), byte, bit);
+}
+
+pub fn inputs() {
+    let data: &[u8] = b"\xa4\xe1\
+        \xa4\x80\x20\x00\x0a\
+        \xa5\xe1\xd2\x55\x73\x3f\xaa\x0c\
+        \xa5\xe1\xd2\x55\xf0\
+        \x03\xc7\xbf\xe5\x9b\x74\x1e\x3a\xdd\x7d\xc5\x5e\xf6\xbf\x78\x1b\xbd\
+        \xff\x01\x23\x45\x67\x89\xab\xcd\xef\x80";
+    let ns: &[u8] = b"bbb\x01bbbbbbb\x02bbbb\
+        uuuuuu\x03b\
+        \x00\x01\x01\x02\x02\x03\x03\x04\x05\x06\x07\x08\x06\x08\x04\x01\x01\x02\
+        \x0a\x0a\x03\x0a\x07\x0a\
+        \x00\x01\x0d\x09\
+        \x01\x11\x0e\
+        \x06\x01\x11\x11\x11\x11\x11\x11\x11\
+        \x40\x48\x09\x08\x00bu";
+    // claxon's verify_read_bit: more bits are mixed in, to see that they are compatible
+    reads(data, 0, 2, ns, 0, 16, 0, 0);
+    // its verify_read_unary: one ends past the first byte, one skips a byte of zeros, and the place behind is right
+    reads(data, 2, 7, ns, 16, 24, 0, 0);
+    // its verify_read_leq_u8, verify_read_gt_u8_get_u16, verify_read_leq_u16 and verify_read_leq_u32
+    reads(data, 7, 15, ns, 24, 42, 0, 0);
+    reads(data, 15, 20, ns, 42, 48, 0, 0);
+    reads(data, 15, 19, ns, 48, 52, 0, 0);
+    reads(data, 15, 19, ns, 52, 55, 0, 0);
+    // its verify_read_mixed: the warm-up samples of an actual stream
+    reads(data, 20, 37, ns, 55, 64, 0, 0);
+    // of more than 64 bits the last 64, and nothing at a place that is none
+    reads(data, 37, 47, ns, 64, 65, 0, 0);
+    reads(data, 37, 47, ns, 65, 69, 0, 0);
+    reads(data, 37, 47, ns, 68, 69, 10, 1);
+    reads(data, 37, 47, ns, 68, 69, 0, 8);
+    reads(data, 37, 47, ns, 69, 70, 9, 8);
+    reads(data, 37, 47, ns, 70, 71, 11, 0);
+}

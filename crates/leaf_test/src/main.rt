@@ -1,0 +1,21 @@
+// The leaves of the reader on claxon's own test data, at the boundaries of each function, and at each refusal. A line
+// for each case: the functions, the arguments, `=` and the answers, a refusal by its number. The file stdout holds what
+// claxon asserts, what was published, or what was worked out by hand.
+mod blocks;
+mod crcs;
+mod inputs;
+mod numbers;
+mod show;
+mod subframes;
+
+fn main() {
+    crcs::sums();
+    inputs::inputs();
+    numbers::claxon();
+    numbers::boundaries();
+    numbers::shifts();
+    blocks::blocks();
+    subframes::channels();
+    subframes::boundaries();
+    subframes::refusals();
+}

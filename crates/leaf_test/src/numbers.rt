@@ -1,0 +1,157 @@
+// The functions of `number` and `signed` on claxon's test data and at the boundaries of each.
+use crate::show::answer;
+use crate::show::equals;
+use crate::show::mark;
+use crate::show::put;
+use crate::show::text;
+use crate::show::value;
+use crate::show::value32;
+use crate::show::wide;
+use number::low32;
+use number::shift_down;
+use number::shift_up;
+use number::wrapping_add;
+use number::wrapping_sub;
+use signed::fold;
+use signed::sign_extend;
+use signed::unfold;
+
+fn extend(v: u64, width: u32) {
+    text(b"sign_extend");
+    put(b' ', v);
+    put(b' ', width as u64);
+    answer(sign_extend(v, width));
+}
+
+// From the folded form, and back to it.
+fn rice(n: u32) {
+    text(b"unfold fold");
+    put(b' ', n as u64);
+    equals();
+    let r = unfold(n);
+    value32(r);
+    put(b' ', fold(wide(r)));
+    mark(b'\n');
+}
+
+fn keep(x: i64) {
+    text(b"low32");
+    value(x);
+    answer(wide(low32(x)));
+}
+
+fn sums(a: i32, b: i32) {
+    text(b"wrapping_add wrapping_sub");
+    value32(a);
+    value32(b);
+    equals();
+    value32(wrapping_add(a, b));
+    value32(wrapping_sub(a, b));
+    mark(b'\n');
+}
+
+fn up(x: i32, k: u32) {
+    text(b"shift_up");
+    value32(x);
+    put(b' ', k as u64);
+    answer(wide(shift_up(x, k)));
+}
+
+fn down(x: i64, k: u32) {
+    text(b"shift_down");
+    value(x);
+    put(b' ', k as u64);
+    answer(shift_down(x, k));
+}
+
+pub fn claxon() {
+    // its verify_extend_sign_u16
+    extend(5, 4);
+    extend(0x3ffe, 15);
+    extend(11, 4);
+    extend(509, 9);
+    extend(0xffff, 16);
+    extend(0xfffe, 16);
+    extend(0x7fff, 15);
+    // its verify_extend_sign_u32; the last four are samples of a real stream
+    extend(5, 4);
+    extend(0x3ffffffe, 31);
+    extend(11, 4);
+    extend(509, 9);
+    extend(0xfffe, 16);
+    extend(0xffffffff, 32);
+    extend(0xfffffffe, 32);
+    extend(0x7fffffff, 31);
+    extend(124680, 17);
+    extend(124467, 17);
+    extend(124222, 17);
+    extend(124011, 17);
+    // its verify_rice_to_signed, and the largest numbers
+    rice(0);
+    rice(1);
+    rice(2);
+    rice(3);
+    rice(4);
+    rice(4294967294);
+    rice(4294967295);
+}
+
+pub fn boundaries() {
+    // the least and the largest number of a width, and widths that are taken for 64
+    extend(18446744073709551615, 0);
+    extend(0, 1);
+    extend(1, 1);
+    extend(2, 1);
+    extend(1073741823, 31);
+    extend(1073741824, 31);
+    extend(2147483647, 32);
+    extend(2147483648, 32);
+    extend(4294967295, 33);
+    extend(4294967296, 33);
+    extend(4611686018427387903, 63);
+    extend(4611686018427387904, 63);
+    extend(9223372036854775807, 64);
+    extend(9223372036854775808, 64);
+    extend(9223372036854775807, 65);
+    extend(18446744073709551615, 65);
+    extend(18446744073709551615, 4294967295);
+    // the low 32 bits of a number, and of a sum and a difference
+    keep(2147483647);
+    keep(2147483648);
+    keep(4294967295);
+    keep(4294967296);
+    keep(-2147483648);
+    keep(-2147483649);
+    keep(9223372036854775807);
+    keep(-9223372036854775808);
+    sums(2147483647, 1);
+    sums(-2147483648, -1);
+    sums(-2147483648, -2147483648);
+    sums(2, 3);
+    sums(-2147483648, 1);
+    sums(2147483647, -1);
+    sums(0, -2147483648);
+}
+
+// Shifts by nothing, by all the bits that there are, and by more.
+pub fn shifts() {
+    up(-2147483648, 0);
+    up(2147483647, 1);
+    up(1, 31);
+    up(2, 31);
+    up(-1, 31);
+    up(-1, 32);
+    up(1, 63);
+    up(1, 64);
+    up(-1, 4294967295);
+    down(-9223372036854775808, 0);
+    down(-5, 1);
+    down(-9223372036854775808, 31);
+    down(-9223372036854775808, 32);
+    down(9223372036854775807, 62);
+    down(9223372036854775807, 63);
+    down(-9223372036854775808, 63);
+    down(9223372036854775807, 64);
+    down(-1, 64);
+    down(-1, 4294967295);
+}

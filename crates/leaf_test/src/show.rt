@@ -1,0 +1,97 @@
+// What the lines are made of, and how the data of a case is named. A text or an array of its own makes a call take the
+// proof several times as long as numbers do. So marks are given as bytes, and the data of many cases stand in one text,
+// of which a case names a part.
+use error::Refusal;
+use error::number_of;
+use libc::STDOUT_FILENO;
+use reading::Place;
+use signed::low_bits;
+use std::num::wrapping_sub_u64;
+
+pub fn text(s: &[u8]) {
+    io::write_all(STDOUT_FILENO, s);
+}
+
+pub fn mark(c: u8) {
+    let s = [c];
+    io::write_all(STDOUT_FILENO, &s);
+}
+
+// A number behind a mark.
+pub fn put(before: u8, x: u64) {
+    mark(before);
+    io::print_decimal(STDOUT_FILENO, x);
+}
+
+// A number behind a space and its sign.
+pub fn value(x: i64) {
+    let bits = low_bits(x, 64);
+    if x < 0 {
+        mark(b' ');
+        put(b'-', wrapping_sub_u64(0, bits));
+    } else {
+        put(b' ', bits);
+    }
+}
+
+// The same number, wider.
+pub fn wide(x: i32) -> i64 {
+    x as i64
+}
+
+pub fn value32(x: i32) {
+    value(wide(x));
+}
+
+pub fn values32(xs: &[i32]) {
+    let mut i = 0;
+    while i < xs.len() {
+        value32(xs[i]);
+        i += 1;
+    }
+}
+
+fn byte(x: u8) {
+    io::print_hex(STDOUT_FILENO, x as u64, 2);
+}
+
+// Bytes in hexadecimal.
+pub fn bytes(s: &[u8]) {
+    let mut i = 0;
+    while i < s.len() {
+        byte(s[i]);
+        i += 1;
+    }
+}
+
+// A place as byte:bit.
+pub fn place(p: Place) {
+    put(b' ', p.byte as u64);
+    put(b':', p.bit as u64);
+}
+
+pub fn equals() {
+    mark(b' ');
+    mark(b'=');
+}
+
+// The answer where it is a number, and the end of the line.
+pub fn answer(x: i64) {
+    equals();
+    value(x);
+    mark(b'\n');
+}
+
+pub fn refused(e: Refusal) {
+    text(b" refused");
+    put(b' ', number_of(e) as u64);
+}
+
+// A part of some data; nothing where there is no such part.
+pub fn part(data: &[u8], from: usize, to: usize) -> &[u8] {
+    if from <= to && to <= data.len() {
+        &data[from..to]
+    } else {
+        &data[..0]
+    }
+}
