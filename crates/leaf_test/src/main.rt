@@ -13,6 +13,7 @@ fn main() {
     inputs::inputs();
     numbers::claxon();
     numbers::boundaries();
+    numbers::wraps();
     numbers::shifts();
     blocks::blocks();
     subframes::channels();

@@ -13,6 +13,7 @@ use number::shift_up;
 use number::wrapping_add;
 use number::wrapping_sub;
 use signed::fold;
+use signed::low_bits;
 use signed::sign_extend;
 use signed::unfold;
 
@@ -31,6 +32,15 @@ fn rice(n: u32) {
     let r = unfold(n);
     value32(r);
     put(b' ', fold(wide(r)));
+    mark(b'\n');
+}
+
+fn low(x: i64, width: u32) {
+    text(b"low_bits");
+    value(x);
+    put(b' ', width as u64);
+    equals();
+    put(b' ', low_bits(x, width));
     mark(b'\n');
 }
 
@@ -96,8 +106,8 @@ pub fn claxon() {
     rice(4294967295);
 }
 
+// The least and the largest number of a width, and widths that are taken for 64.
 pub fn boundaries() {
-    // the least and the largest number of a width, and widths that are taken for 64
     extend(18446744073709551615, 0);
     extend(0, 1);
     extend(1, 1);
@@ -115,7 +125,16 @@ pub fn boundaries() {
     extend(9223372036854775807, 65);
     extend(18446744073709551615, 65);
     extend(18446744073709551615, 4294967295);
-    // the low 32 bits of a number, and of a sum and a difference
+    low(-1, 0);
+    low(-1, 1);
+    low(-6, 4);
+    low(-9223372036854775808, 63);
+    low(-9223372036854775808, 64);
+    low(-1, 65);
+}
+
+// The low 32 bits of a number, and of a sum and a difference.
+pub fn wraps() {
     keep(2147483647);
     keep(2147483648);
     keep(4294967295);
