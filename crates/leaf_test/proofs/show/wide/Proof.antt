@@ -1,11 +1,11 @@
 -- 64 bits have room for what 32 hold. Assumes nothing.
 use borrow.Author.Needs.{needs}
-use mir.Facts.{toZ-ofZ, sfits-widen}
+use Rattle.rfc9639.proofs.Machine.{widen-fits}
 use Rattle.leaf_test.proofs.show.wide.Statement.{statement}
 use Rattle.leaf_test.proofs.show.wide.Tie as tie
 
 cast-result : tie.Need-cast-result
-cast-result c = rw (toZ-ofZ (c .fits .x)) (sfits-widen tt (c .fits .x))
+cast-result c = widen-fits (c .fits .x)
 
 returns : tie.Need-returns
 returns c = search needs
