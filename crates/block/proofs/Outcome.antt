@@ -1,17 +1,15 @@
 -- Any two outcomes that meet a public function's contract are equal. Assumes nothing.
 use Prim.Native.Nat.{ℕ}
-use mathlib.Core.Path.{_≡_, sym, _∙_}
+use mathlib.Core.Path.{_≡_}
 use mathlib.Core.List.{List}
 use lib.IntN.{ℤ}
 use lib.ListN.{length, replicate}
+use Rattle.reading.proofs.Outcome.{one}
 use Rattle.block.specs.declared.Block.{Block}
 use Rattle.block.specs.declared.Part.{Part}
 use Rattle.block.specs.declared.SampleAt.{SampleAt}
 use Rattle.block.specs.declared.PairAt.{PairAt}
 use Rattle.block.specs.Blocks.{partOf, channelOf, sampleOf, pairOf}
-
-one : {A : Type 0} {x r r′ : A} → r ≡ x → r′ ≡ x → r ≡ r′
-one p q = p ∙ sym q
 
 module _ (samples : List ℤ) (block : Block) where
   pub channel-part-one : {r r′ : Part} (channel : ℕ) → r ≡ partOf (length samples) block channel → r′ ≡ partOf (length samples) block channel → r ≡ r′

@@ -4,12 +4,13 @@ use native.Mathlib.Omega.{arith}
 use mathlib.Core.Path.{_≡_, refl, ap, sym, _∙_}
 use mathlib.Core.List.{List, [], _∷_}
 use lib.ListN.{getD}
+use Rattle.reading.proofs.Outcome.{one}
 use Rattle.error.specs.declared.Refusal.{Refusal}
 use Rattle.error.specs.declared.Refusal.the-variants.{NothingLeft, CutShort, NotSync, Reserved, BadNumber, HeaderSum, NoRoom, NotDone, BadShape, FrameSum, BadArgument, SampleRange, OutputRoom}
 use Rattle.error.specs.Numbers.{numberOf}
 
 pub number-of-one : {n n′ : ℕ} (r : Refusal) → n ≡ numberOf r → n′ ≡ numberOf r → n ≡ n′
-number-of-one r p q = p ∙ sym q
+number-of-one r = one
 
 every : List Refusal
 every = NothingLeft ∷ CutShort ∷ NotSync ∷ Reserved ∷ BadNumber ∷ HeaderSum ∷ NoRoom ∷ NotDone ∷ BadShape ∷ FrameSum ∷ BadArgument ∷ SampleRange ∷ OutputRoom ∷ []

@@ -1,15 +1,13 @@
 -- Any two outcomes that meet a public function's contract are equal. Assumes nothing.
 use Prim.Native.Nat.{ℕ, _^_, _<_}
-use mathlib.Core.Path.{_≡_, sym, _∙_}
+use mathlib.Core.Path.{_≡_}
 use mathlib.Core.List.{List}
 use lib.IntN.{ℤ, pos, natAbs}
 use lib.ListN.{length, getD}
+use Rattle.reading.proofs.Outcome.{one}
 use Rattle.rfc9639.specs.declared.Lane.{Lane}
 use Rattle.rfc9639.specs.Coding.{fixedResiduals}
 use Rattle.rfc9639.specs.Write.{stored}
-
-one : {A : Type 0} {x r r′ : A} → r ≡ x → r′ ≡ x → r ≡ r′
-one p q = p ∙ sym q
 
 module _ (samples : List ℤ) (n : ℕ) (lane : Lane) where
   pub stored-len-one : {r r′ : ℕ} → r ≡ length (stored n samples lane) → r′ ≡ length (stored n samples lane) → r ≡ r′

@@ -15,6 +15,7 @@ fn main() {
     numbers::boundaries();
     numbers::wraps();
     numbers::shifts();
+    numbers::lessers();
     blocks::blocks();
     subframes::channels();
     subframes::boundaries();

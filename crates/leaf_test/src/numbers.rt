@@ -7,6 +7,7 @@ use crate::show::text;
 use crate::show::value;
 use crate::show::value32;
 use crate::show::wide;
+use number::lesser;
 use number::low32;
 use number::shift_down;
 use number::shift_up;
@@ -72,6 +73,15 @@ fn down(x: i64, k: u32) {
     value(x);
     put(b' ', k as u64);
     answer(shift_down(x, k));
+}
+
+fn less(a: usize, b: usize) {
+    text(b"lesser");
+    put(b' ', a as u64);
+    put(b' ', b as u64);
+    equals();
+    put(b' ', lesser(a, b) as u64);
+    mark(b'\n');
 }
 
 pub fn claxon() {
@@ -173,4 +183,12 @@ pub fn shifts() {
     down(9223372036854775807, 64);
     down(-1, 64);
     down(-1, 4294967295);
+}
+
+// The lesser first, last, and neither.
+pub fn lessers() {
+    less(0, 18446744073709551615);
+    less(18446744073709551615, 0);
+    less(5, 5);
+    less(65534, 65535);
 }

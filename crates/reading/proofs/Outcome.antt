@@ -1,4 +1,5 @@
--- Any two outcomes that meet the public function's contract are equal. Assumes nothing.
+-- Any two outcomes that meet the public function's contract are equal; and the law behind most such lines, in this crate and
+-- above it. Assumes nothing.
 use Prim.Native.Nat.{ℕ}
 use mathlib.Core.Path.{_≡_, sym, _∙_}
 use mathlib.Core.Bool.{Bool}
@@ -6,5 +7,9 @@ use mathlib.Core.List.{List}
 use Rattle.reading.specs.declared.Place.{Place}
 use Rattle.reading.specs.Places.{inside}
 
+-- what a contract says to be one value is one
+pub one : {A : Type 0} {x r r′ : A} → r ≡ x → r′ ≡ x → r ≡ r′
+one p q = p ∙ sym q
+
 pub is-inside-one : (s : List ℕ) (at : Place) (r r′ : Bool) → r ≡ inside s at → r′ ≡ inside s at → r ≡ r′
-is-inside-one s at r r′ e f = e ∙ sym f
+is-inside-one s at r r′ = one

@@ -1,13 +1,11 @@
 -- Any two outcomes that meet a public function's contract are equal. Assumes nothing.
 use Prim.Native.Nat.{ℕ, _+_, _*_}
-use mathlib.Core.Path.{_≡_, sym, _∙_}
+use mathlib.Core.Path.{_≡_}
 use mathlib.Core.List.{List, _∷_, _++_}
 use lib.IntN.{ℤ, pos}
+use Rattle.reading.proofs.Outcome.{one}
 use Rattle.rfc9639.specs.Integers.{low, wrapped}
 use Rattle.records.specs.Little.{little}
-
-one : {A : Type 0} {x r r′ : A} → r ≡ x → r′ ≡ x → r ≡ r′
-one p q = p ∙ sym q
 
 module _ (kind consumed first channels bits size : ℕ) where
   abbrev reported : List ℕ

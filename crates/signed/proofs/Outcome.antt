@@ -1,13 +1,11 @@
 -- Any two outcomes that meet a public function's contract are equal. Assumes nothing.
 use Prim.Native.Nat.{ℕ}
-use mathlib.Core.Path.{_≡_, sym, _∙_}
+use mathlib.Core.Path.{_≡_}
 use lib.IntN.{ℤ}
+use Rattle.reading.proofs.Outcome.{one}
 use Rattle.rfc9639.specs.Residual.{unfolded}
 use Rattle.rfc9639.specs.Coding.{fold}
 use Rattle.signed.specs.Extend.{signExtend, lowBits}
-
-one : {A : Type 0} {x r r′ : A} → r ≡ x → r′ ≡ x → r ≡ r′
-one p q = p ∙ sym q
 
 pub sign-extend-one : {r r′ : ℤ} (v width : ℕ) → r ≡ signExtend width v → r′ ≡ signExtend width v → r ≡ r′
 sign-extend-one v width = one

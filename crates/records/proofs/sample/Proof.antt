@@ -1,15 +1,18 @@
--- `sample` meets its contract: each byte by itself. Assumes nothing.
+-- `sample` meets its contract: each byte of the low 32 bits by itself. Assumes nothing.
 use borrow.Author.Needs.{needs}
 use mathlib.Core.Path.{refl, ap, _∙_}
-use mir.Facts.{toZ-ofZ}
-use Rattle.rfc9639.specs.Integers.{low}
+use Rattle.rfc9639.proofs.Machine.{widened, widen-fits}
+use Rattle.signed.specs.Extend.{lowBits}
 use Rattle.records.specs.Little.{little}
 use Rattle.records.proofs.Spelt.{also}
 use Rattle.records.proofs.sample.Statement.{statement}
 use Rattle.records.proofs.sample.Tie as tie
 
-bits-of-requires : tie.Need-bits-of-requires
-bits-of-requires c κs = search needs
+cast-low-bits : tie.Need-cast-low-bits
+cast-low-bits c = widen-fits (c .fits .x)
+
+low-bits-requires : tie.Need-low-bits-requires
+low-bits-requires c κs = search needs
 
 low-byte-requires : tie.Need-low-byte-requires
 low-byte-requires c κs = search needs
@@ -24,18 +27,20 @@ low-byte-requires-4 : tie.Need-low-byte-requires-4
 low-byte-requires-4 c κs = search needs
 
 returns : tie.Need-returns
+unfolding lowBits
 returns c =
     let c3 = c .before in
     let c2 = c3 .before in
     let c1 = c2 .before in
     also (c1 .low-byte .ensures) (also (c2 .low-byte2 .ensures) (also (c3 .low-byte3 .ensures) (also (c .low-byte4 .ensures) refl)))
-    ∙ ap (little 4) (c1 .before .bits-of .ensures ∙ ap (low 32) (toZ-ofZ (c1 .before .before .fits .x)))
+    ∙ ap (little 4) (c1 .before .low-bits .ensures ∙ ap (lowBits 32) (widened (c1 .before .before .fits .x)))
 
 pub sample-spec : {M : Type 1} → statement M
 sample-spec =
     tie.close
     (tie.spec
-    bits-of-requires
+    cast-low-bits
+    low-bits-requires
     low-byte-requires
     low-byte-requires-2
     low-byte-requires-3
