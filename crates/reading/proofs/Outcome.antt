@@ -7,7 +7,7 @@ use mathlib.Core.List.{List}
 use Rattle.reading.specs.declared.Place.{Place}
 use Rattle.reading.specs.Places.{inside}
 
--- what a contract says to be one value is one
+-- two that equal one value are equal
 pub one : {A : Type 0} {x r r′ : A} → r ≡ x → r′ ≡ x → r ≡ r′
 one p q = p ∙ sym q
 
