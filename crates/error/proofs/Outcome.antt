@@ -1,16 +1,21 @@
--- Any two outcomes that meet the contract are equal, no two refusals have one number, and none has 0. Assumes nothing.
+-- Any two outcomes that meet a contract are equal; no two refusals have one number, and none has 0. Assumes nothing.
 use Prim.Native.Nat.{ℕ, _-_, _≤_}
 use native.Mathlib.Omega.{arith}
 use mathlib.Core.Path.{_≡_, refl, ap, sym, _∙_}
 use mathlib.Core.List.{List, [], _∷_}
 use lib.ListN.{getD}
-use Rattle.reading.proofs.Outcome.{one}
+use Rattle.reading.proofs.Outcome.{OneOutcome, one}
 use Rattle.error.specs.declared.Refusal.{Refusal}
 use Rattle.error.specs.declared.Refusal.the-variants.{NothingLeft, CutShort, NotSync, Reserved, BadNumber, HeaderSum, NoRoom, NotDone, BadShape, FrameSum, BadArgument, SampleRange, OutputRoom}
 use Rattle.error.specs.Numbers.{numberOf}
+use Rattle.error.proofs.number_of
+use Rattle.error.proofs.needs
 
-pub number-of-one : {n n′ : ℕ} (r : Refusal) → n ≡ numberOf r → n′ ≡ numberOf r → n ≡ n′
-number-of-one r = one
+pub number-of-one : OneOutcome number_of.ended number_of.Reads.Learnt
+number-of-one κs args r r′ left left′ p q = (one p q, refl)
+
+pub needs-one : OneOutcome needs.ended needs.Reads.Learnt
+needs-one κs args r r′ left left′ p q = (one p q, refl)
 
 every : List Refusal
 every = NothingLeft ∷ CutShort ∷ NotSync ∷ Reserved ∷ BadNumber ∷ HeaderSum ∷ NoRoom ∷ NotDone ∷ BadShape ∷ FrameSum ∷ BadArgument ∷ SampleRange ∷ OutputRoom ∷ []

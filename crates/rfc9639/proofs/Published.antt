@@ -11,6 +11,12 @@ pub record Published : Type 0 where
   -- RFC 9639, appendix D.1: two verbatim channels, 2 and 4 wasted bits
   pub rfc-1 : read (hex 15 0xfff869180000bf03_58fd03128baa9a) (replicate 3 (pos 7))
       ≡ record { report = record { number = 0; consumed = 15; first = 0; channels = 2; bits = 16; size = 1 }; buffer = pos 25588 ∷ pos 10416 ∷ pos 7 ∷ [] }
+  -- RFC 9639, appendix D.2: two frames, one after the other; the first is side/right, of fixed predictors ..
+  pub rfc-2a : read (hex 91 0xfff86998000f9912_086701623d144299_8f5df70d6fe00c17_caeb21000ee7a77a_24a1590c1217b603_097b784faa9a33d2_85e070ad5b1b4851_b4010d99d2cd1a68_f1e6b810fff86918_0102a402c382c40b_c14a03ee48dd03b6_7c1330) (replicate 33 (pos 7))
+      ≡ record { report = record { number = 0; consumed = 68; first = 0; channels = 2; bits = 16; size = 16 }; buffer = pos 10372 ∷ pos 18041 ∷ pos 14942 ∷ pos 17876 ∷ pos 15627 ∷ pos 17899 ∷ pos 16242 ∷ pos 18077 ∷ pos 16824 ∷ pos 18263 ∷ pos 17295 ∷ minus 14418 ∷ minus 15201 ∷ minus 14508 ∷ minus 15195 ∷ minus 14818 ∷ pos 6070 ∷ pos 10545 ∷ pos 8743 ∷ pos 10449 ∷ pos 9143 ∷ pos 10463 ∷ pos 9502 ∷ pos 10569 ∷ pos 9840 ∷ pos 10680 ∷ pos 10113 ∷ minus 8428 ∷ minus 8895 ∷ minus 8476 ∷ minus 8896 ∷ minus 8653 ∷ pos 7 ∷ [] }
+  -- .. and the second has two channels as they are, of three samples
+  pub rfc-2b : read (hex 23 0xfff869180102a402_c382c40bc14a03ee_48dd03b67c1330) (replicate 7 (pos 7))
+      ≡ record { report = record { number = 0; consumed = 23; first = 3; channels = 2; bits = 16; size = 3 }; buffer = minus 15486 ∷ minus 15349 ∷ minus 16054 ∷ minus 9072 ∷ minus 8958 ∷ minus 9410 ∷ pos 7 ∷ [] }
   -- RFC 9639, appendix D.3: a partition stored plain, which is not done
   pub rfc-3 : read (hex 31 0xfff868020017e944_004f6f313d1047d2_27cb6d090831452b_dc2822228057a3) (replicate 24 (pos 7)) ≡ record { report = refusal 8; buffer = replicate 24 (pos 0) }
   -- side/right, as the encoder `flac` 1.4.2 wrote it; a byte follows
@@ -34,6 +40,8 @@ pub published : Published
 unfolding computed
 published = record {
   rfc-1 = refl;
+  rfc-2a = refl;
+  rfc-2b = refl;
   rfc-3 = refl;
   flac-stereo = refl;
   mid-side = refl;

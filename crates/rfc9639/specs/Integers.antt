@@ -1,5 +1,5 @@
--- Numbers of w bits in two's complement. Prediction and joining of channels are exact in ℤ: `wrapped` is the one place
--- where a width enters.
+-- Numbers of w bits in two's complement. Prediction and joining of channels are exact in ℤ, and `wrapped` is where they are
+-- cut to a width; a residual's folded form is cut on its own (`folded`, Residual.antt).
 use Prim.Native.Nat.{ℕ, suc, _-_, _*_, _/_, _%_, _^_}
 use lib.Dec.{ltb}
 use lib.IntN.{ℤ, pos, negsuc, _*ℤ_}

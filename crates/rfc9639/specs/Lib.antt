@@ -9,5 +9,6 @@ pub mod Subframe
 pub mod Stereo
 pub mod Frame
 pub mod Read
+pub mod FrameByFrame
 pub mod Coding
 pub mod Write
