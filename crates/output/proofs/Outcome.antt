@@ -15,7 +15,7 @@ pub state-one : {p p′ : Pen} {s s′ : List ℕ} {x : State} → _≡_ {A = St
 state-one e f = (ap (λ y. y .pen) (e ∙ sym f), ap (λ y. y .bytes) (e ∙ sym f))
 
 pub write-bits-one : OneOutcome write_bits.ended write_bits.Reads.Learnt
-write-bits-one κs args r r′ left left′ p q = let (pens, bytes) = state-one p q in (pens, ap (λ l. (l, left .1)) bytes)
+write-bits-one κs args r r′ left left′ p q = let (pens, bytes) = state-one p q in (pens, ap (λ l. (l, (tt, (tt, (tt, tt))))) bytes)
 
 pub write-unary-one : OneOutcome write_unary.ended write_unary.Reads.Learnt
-write-unary-one κs args r r′ left left′ p q = let (pens, bytes) = state-one p q in (pens, ap (λ l. (l, left .1)) bytes)
+write-unary-one κs args r r′ left left′ p q = let (pens, bytes) = state-one p q in (pens, ap (λ l. (l, (tt, (tt, tt)))) bytes)
