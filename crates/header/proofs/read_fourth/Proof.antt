@@ -11,7 +11,7 @@ use Rattle.reading.proofs.Holding.{Meets, holds-at}
 use Rattle.input.proofs.Laws.{read-got, read-short}
 use Rattle.rfc9639.specs.Header.{depthAndZero, channelsAndBits}
 use Rattle.demands.proofs.Frames.{Early, zero-holds}
-use Rattle.header.specs.Answers.{fielded}
+use Rattle.header.specs.Private.{fielded}
 use Rattle.error.proofs.Passing.{bind-refusal}
 use Rattle.header.proofs.Stepping.{then-done, check-fails, check-holds}
 use Rattle.header.proofs.read_fourth.Statement.{statement}
