@@ -1,8 +1,9 @@
 #!/bin/sh
-# Runs a built program on stored cases: sh cases/run.sh NAME [LIST]. The list is cases/LIST.txt, by default cases/NAME.txt; a
-# line of it is a case's name, its input and the output that it must have, in hex ('-' for none). How many cases a list has
-# stands in cases/COUNTS. A list that is not there, is empty, ends without a newline or has another number of cases fails, and
-# so does a case whose program ends with a status other than 0. The last line says how many passed and failed.
+# Runs a built program on stored cases: sh cases/run.sh NAME [LIST]. The list is cases/LIST.txt, by default
+# cases/NAME.txt; a line of it is a case's name, its input and the output that it must have, in hex ('-' for none). How
+# many cases a list has stands in cases/COUNTS. A list that is not there, is empty, ends without a newline or has
+# another number of cases fails, and so does a case whose program ends with a status other than 0. The last line says
+# how many passed and failed.
 set -u
 cd "$(dirname "$0")/.." || exit 2
 program=${1:?"usage: sh cases/run.sh NAME [LIST]"}
