@@ -137,7 +137,7 @@ fn main() {
     report(&judge, start.elapsed().as_secs_f64());
     match &wish.list {
         Some(path) => program::write_list(&judge.sample.kept, path),
-        None if wish.runner.is_empty() => println!("not compared: claxon with runner, since there is no program runner"),
+        None if wish.runner.is_empty() => println!("not compared: claxon with runner, since it is not built"),
         None => program::compare(&judge.sample.kept, &wish.runner),
     }
 }
