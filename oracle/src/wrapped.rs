@@ -1,5 +1,5 @@
-//! One frame that is too long to be drawn: 2^32 zeros stand where its wasted bits are counted, and claxon's count wraps.
-//! Both readers read it once. It ends with status 1 where an answer is not the one that docs/DIFFERENCES.md has.
+//! One frame that is too long to be drawn: its wasted bits are counted by 2^32 zeros, and claxon's count wraps. Both
+//! readers read it once. It ends with status 1 where an answer is not the one that docs/DIFFERENCES.md has.
 use common::readers::{Answer, Claxon, Ours};
 use common::sums::crc16;
 use std::time::Instant;
