@@ -49,7 +49,8 @@ run() { # COMMAND: shows what it writes, and adds up its last line, 'N passed, M
     fi
 }
 
-compare() { # SCRIPT WORDS: counts as one, but not where it could not do all: then it has a line 'not compared: ...' for each
+# A script that could not do all says so in lines 'not compared: ...'. It is not counted, and the lines come at the end.
+compare() { # SCRIPT WORDS
     if ! sh "$@" >"$log" 2>&1; then
         fail "$1 failed"
     elif ! grep -q '^not compared: ' "$log"; then
