@@ -6,28 +6,28 @@ use lib.ListN.{length, drop}
 use Rattle.rfc9639.specs.Read.{Result}
 
 -- What an answer is, by its number. 1 and 2 are those that more bytes may change.
-pub data Kind : Type 0 where
-  frame undecided refused : Kind
+pub data Verdict : Type 0 where
+  accept undecided refuse : Verdict
 
-unfoldable pub kindOf : ℕ → Kind
-kindOf zero = frame
-kindOf (suc zero) = undecided
-kindOf (suc (suc zero)) = undecided
-kindOf (suc (suc (suc n))) = refused
+unfoldable pub verdictOf : ℕ → Verdict
+verdictOf zero = accept
+verdictOf (suc zero) = undecided
+verdictOf (suc (suc zero)) = undecided
+verdictOf (suc (suc (suc n))) = refuse
 
-abbrev pub kind : Result → Kind
-kind r = kindOf (r .report .number)
+abbrev pub verdict : Result → Verdict
+verdict r = verdictOf (r .report .number)
 
 -- after a frame the reading goes on, after a refusal it does not
-unfoldable pub goesOn : Kind → List Result → List Result
-goesOn frame rest = rest
+unfoldable pub goesOn : Verdict → List Result → List Result
+goesOn accept rest = rest
 goesOn undecided rest = []
-goesOn refused rest = []
+goesOn refuse rest = []
 
 -- at most n answers
 unfoldable pub answersIn : ℕ → (List ℕ → Result) → List ℕ → List Result
 answersIn zero one s = []
-answersIn (suc n) one s = one s ∷ goesOn (kind (one s)) (answersIn n one (drop (one s .report .consumed) s))
+answersIn (suc n) one s = one s ∷ goesOn (verdict (one s)) (answersIn n one (drop (one s .report .consumed) s))
 
 -- An accepted frame has a byte at least: so there are at most as many frames as bytes, and one refusal.
 unfoldable pub answers : (List ℕ → Result) → List ℕ → List Result

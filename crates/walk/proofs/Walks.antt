@@ -11,7 +11,7 @@ use lib.Seq.{drop-drop, drop-append-le, drop-append-add}
 use Rattle.error.specs.declared.Refusal.{Refusal}
 use Rattle.error.proofs.Outcome.{some-number}
 use Rattle.rfc9639.specs.Read.{Report, refusal, Result, result, read}
-use Rattle.rfc9639.specs.FrameByFrame.{Kind, frame, undecided, refused, kindOf, kind, goesOn, answers}
+use Rattle.rfc9639.specs.FrameByFrame.{Verdict, accept, undecided, refuse, verdictOf, verdict, goesOn, answers}
 use Rattle.demands.proofs.FrameByFrame.{frame-zero, Lawful, unrolled, lawful}
 use Rattle.frame.specs.declared.Accepted.{Accepted}
 use Rattle.frame.specs.declared.Answer.{Answer}
@@ -54,19 +54,19 @@ module _ (s : List ℕ) (room : ℕ) where
   }
 
   module _ (place : ℕ) {t : Taken} (w : Shows t (one (drop place s))) where
-    frame-kind : {f : Accepted} → t .step .answer ≡ Answer.Frame f → kind (one (drop place s)) ≡ frame
-    unfolding kindOf
-    frame-kind e = ap (λ (r : Report). kindOf (r .number)) (sym (w .report) ∙ ap reportOf e)
+    frame-verdict : {f : Accepted} → t .step .answer ≡ Answer.Frame f → verdict (one (drop place s)) ≡ accept
+    unfolding verdictOf
+    frame-verdict e = ap (λ (r : Report). verdictOf (r .number)) (sym (w .report) ∙ ap reportOf e)
 
-    ended : {e : Refusal} → t .step .answer ≡ Answer.Refused e → (l : List Result) → goesOn (kind (one (drop place s))) l ≡ []
+    ended : {e : Refusal} → t .step .answer ≡ Answer.Refused e → (l : List Result) → goesOn (verdict (one (drop place s))) l ≡ []
     unfolding refusal goesOn
-    ended {e} is l = go (kind (one (drop place s))) refl
+    ended {e} is l = go (verdict (one (drop place s))) refl
       where
-        go : (k : Kind) → kind (one (drop place s)) ≡ k → goesOn k l ≡ []
-        go frame z =
+        go : (k : Verdict) → verdict (one (drop place s)) ≡ k → goesOn k l ≡ []
+        go accept z =
             absurd (omega (arith, some-number e, frame-zero (one (drop place s) .report .number) z, ap (λ (r : Report). r .number) (sym (w .report) ∙ ap reportOf is)))
         go undecided z = refl
-        go refused z = refl
+        go refuse z = refl
 
   next-rest : (place : ℕ) {t : Taken} → length (t .lent) ≡ room → Steps s place (t .lent) (t .step) (t .left)
       → drop (one (drop place s) .report .consumed) (drop place s) ≡ drop (t .step .place) s
@@ -84,7 +84,7 @@ module _ (s : List ℕ) (room : ℕ) where
       let w = shows t l h in
       let list =
       unrolled (lawful (record { room = room })) (drop place s)
-      ∙ ap (λ (k : Kind). one (drop place s) ∷ goesOn k (answers one (drop (one (drop place s) .report .consumed) (drop place s)))) (frame-kind place w is)
+      ∙ ap (λ (k : Verdict). one (drop place s) ∷ goesOn k (answers one (drop (one (drop place s) .report .consumed) (drop place s)))) (frame-verdict place w is)
       ∙ ap (λ (x : List ℕ). one (drop place s) ∷ answers one x) (next-rest place {t = t} l h) in
       subst (Match (t ∷ ts)) (sym list) (matches w (walk-shows rest))
 
@@ -95,6 +95,6 @@ steps-give-answers s room w = walk-shows s room w
 -- A window of a card: what is gone, what the window holds, and what is still to come. What is decided in the window is
 -- what the whole card says at that place.
 pub in-window : {one : List ℕ → Result} → Lawful one → (gone window more : List ℕ) (at : ℕ) → at ≤ length window
-    → (kind (one (drop at window)) ≡ undecided → ⊥) → one (drop (length gone + at) (gone ++ (window ++ more))) ≡ one (drop at window)
+    → (verdict (one (drop at window)) ≡ undecided → ⊥) → one (drop (length gone + at) (gone ++ (window ++ more))) ≡ one (drop at window)
 in-window {one} law gone window more at h known =
     ap one (drop-append-add gone (window ++ more) at ∙ drop-append-le at window more h) ∙ law .extended (drop at window) more known
