@@ -2,8 +2,8 @@
 use borrow.Author.Needs.{needs}
 use Rattle.rfc9639.specs.Write.{unwritten}
 use Rattle.thriftacorn.proofs.Reporting.{written}
-use Rattle.thriftacorn.proofs.thriftacorn_write_frame.Statement.{statement}
-use Rattle.thriftacorn.proofs.thriftacorn_write_frame.Tie as tie
+use Rattle.thriftacorn.proofs.write.thriftacorn_write_frame_v1.Statement.{statement}
+use Rattle.thriftacorn.proofs.write.thriftacorn_write_frame_v1.Tie as tie
 
 write-frame-requires : tie.Need-write-frame-requires
 write-frame-requires c κs = search needs
@@ -30,8 +30,8 @@ returns-2 : tie.Need-returns-2
 unfolding unwritten
 returns-2 c = rw (c .number-of .ensures) (written _ (c .before .before .before .before .before .before .write-frame .ensures) _ (c .before .before .answer2 .given .1))
 
-pub thriftacorn-write-frame-spec : {M : Type 1} → statement M
-thriftacorn-write-frame-spec =
+pub thriftacorn-write-frame-v1-spec : {M : Type 1} → statement M
+thriftacorn-write-frame-v1-spec =
     tie.close
     (tie.spec
     write-frame-requires

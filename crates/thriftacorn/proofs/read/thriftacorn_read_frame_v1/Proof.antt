@@ -2,8 +2,8 @@
 use borrow.Author.Needs.{needs}
 use Rattle.rfc9639.specs.Read.{refusal}
 use Rattle.thriftacorn.proofs.Reporting.{told}
-use Rattle.thriftacorn.proofs.thriftacorn_read_frame.Statement.{statement}
-use Rattle.thriftacorn.proofs.thriftacorn_read_frame.Tie as tie
+use Rattle.thriftacorn.proofs.read.thriftacorn_read_frame_v1.Statement.{statement}
+use Rattle.thriftacorn.proofs.read.thriftacorn_read_frame_v1.Tie as tie
 
 read-frame-requires : tie.Need-read-frame-requires
 read-frame-requires c κs = search needs
@@ -30,8 +30,8 @@ returns-2 : tie.Need-returns-2
 unfolding refusal
 returns-2 c = rw (c .number-of .ensures) (told (c .before .before .before .before .before .read-frame .ensures) _ (c .before .before .answer2 .given .1))
 
-pub thriftacorn-read-frame-spec : {M : Type 1} → statement M
-thriftacorn-read-frame-spec =
+pub thriftacorn-read-frame-v1-spec : {M : Type 1} → statement M
+thriftacorn-read-frame-v1-spec =
     tie.close
     (tie.spec
     read-frame-requires
