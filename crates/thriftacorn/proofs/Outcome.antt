@@ -1,12 +1,13 @@
 -- Any two outcomes that meet an exported function's contract are equal: the number, and what is left behind each reference.
 -- Assumes nothing.
-use mathlib.Core.Path.{_≡_, ap}
+use mathlib.Core.Path.{_≡_, refl, ap}
 use Rattle.reading.proofs.Outcome.{OneOutcome, one}
 use Rattle.rfc9639.specs.Read.{Outcome}
 use Rattle.rfc9639.specs.Write.{Written}
 use Rattle.block.specs.Reports.{ChannelReport, SampleReport, PairReport}
 use Rattle.thriftacorn.proofs.read.thriftacorn_read_frame_v1 as read-frame
 use Rattle.thriftacorn.proofs.write.thriftacorn_write_frame_v1 as write-frame
+use Rattle.thriftacorn.proofs.write.thriftacorn_longest_v1 as longest
 use Rattle.thriftacorn.proofs.samples.thriftacorn_channel_v1 as channel
 use Rattle.thriftacorn.proofs.samples.thriftacorn_sample_v1 as sample
 use Rattle.thriftacorn.proofs.samples.thriftacorn_pair_v1 as pair
@@ -20,6 +21,9 @@ pub write-frame-v1-one : OneOutcome write-frame.ended write-frame.Reads.Learnt
 write-frame-v1-one κs args r r′ left left′ p q =
     let e : _≡_ {A = Written} _ _ = one p q in
     (ap (λ (o : Written). o .number) e, ap (λ (o : Written). (tt, (tt, (tt, (tt, (tt, (tt, (o .output, (o .length, tt))))))))) e)
+
+pub longest-v1-one : OneOutcome longest.ended longest.Reads.Learnt
+longest-v1-one κs args r r′ left left′ p q = (one p q, refl)
 
 pub channel-v1-one : OneOutcome channel.ended channel.Reads.Learnt
 channel-v1-one κs args r r′ left left′ p q =

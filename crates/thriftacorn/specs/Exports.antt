@@ -6,6 +6,7 @@ use mathlib.Core.List.{List}
 use lib.IntN.{ℤ}
 use Rattle.rfc9639.specs.Read.{Outcome, read}
 use Rattle.rfc9639.specs.Write.{Written, write}
+use Rattle.bound.specs.Longest.{longestOf}
 use Rattle.block.specs.Blocks.{channelOf, sampleOf, pairOf}
 use Rattle.block.specs.Reports.{ChannelReport, SampleReport, PairReport, channelReport, sampleReport, pairReport}
 
@@ -22,6 +23,10 @@ abbrev pub WriteFrameV1 : ℕ → ℕ → ℕ → ℕ → ℕ → List ℤ → L
 WriteFrameV1 channels bits blocking number size samples out refusal length left =
     _≡_ {A = Written} (record { number = refusal; length = length; output = left })
     (write (record { channels = channels; bits = bits; blocking = blocking; number = number; size = size }) samples out)
+
+abbrev pub LongestV1 : ℕ → ℕ → ℕ → ℕ → ℕ → ℕ → Type 0
+LongestV1 channels bits blocking number size length =
+    length ≡ longestOf (record { channels = channels; bits = bits; blocking = blocking; number = number; size = size })
 
 -- of a block whose samples are so many
 abbrev pub ChannelV1 : ℕ → ℕ → ℕ → ℕ → ℕ → ℕ → ℕ → Type 0

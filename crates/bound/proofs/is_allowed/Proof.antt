@@ -4,9 +4,9 @@ use borrow.Author.Tests.{not-true, not-false, le-leb, lt-leb}
 use mathlib.Core.Path.{refl, sym, _∙_}
 use Rattle.rfc9639.specs.Write.{allowed}
 use Rattle.rfc9639.proofs.Listing.{channels-between}
-use Rattle.writer.proofs.Allowing.{some, none, product-fits}
-use Rattle.writer.proofs.settings.is_allowed.Statement.{statement}
-use Rattle.writer.proofs.settings.is_allowed.Tie as tie
+use Rattle.bound.proofs.Allowing.{some, none, product-fits}
+use Rattle.bound.proofs.is_allowed.Statement.{statement}
+use Rattle.bound.proofs.is_allowed.Tie as tie
 
 returns : tie.Need-returns
 unfolding allowed

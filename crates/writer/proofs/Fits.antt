@@ -1,48 +1,20 @@
--- The settings' tests, and which samples fit. Assumes nothing.
-use Prim.Native.Nat.{ℕ, zero, suc, _+_, _-_, _*_, _^_, _≤_, _<_}
-use native.Mathlib.Nat.{mul-le-mul-right}
+-- Which samples fit. Assumes nothing.
+use Prim.Native.Nat.{ℕ, suc, _+_, _-_, _*_, _^_, _≤_, _<_}
 use native.Mathlib.Omega.{arith}
 use mathlib.Core.Path.{_≡_, refl, ap, sym, _∙_}
-use mathlib.Core.Bool.{Bool, true, false, cond, _&&_}
+use mathlib.Core.Bool.{Bool, true, false, _&&_}
 use mathlib.Core.List.{List}
 use borrow.Author.Tests.{ltb-true, ltb-false, lt-ltb, le-ltb}
-use lib.Dec.{ltb, eqb}
+use lib.Dec.{ltb}
 use lib.IntN.{ℤ, pos, negsuc}
 use lib.ListN.{length, getD, drop, drop-of-length-le}
 use lib.Seq.{drop-cons}
 use mir.Facts.{toZ-ofZ}
 use mir.Syntax.{w32}
 use mir.Val.{SFits, toZ, ofZ}
-use Rattle.rfc9639.specs.declared.ChannelAssignment.the-variants.{LeftSide, SideRight, MidSide}
-use Rattle.rfc9639.specs.Header.{assignment, channelCount}
 use Rattle.rfc9639.specs.Coding.{fold}
 use Rattle.rfc9639.specs.Write.{fits, allFit}
 use Rattle.rfc9639.proofs.Widths.{pow-double}
-
--- a side channel comes with one other
-pub count-of-pair : (code : ℕ) → 8 ≤ code → channelCount (assignment code) ≡ 2
-unfolding assignment channelCount
-count-of-pair code h = rw (le-ltb _ _ h) (go (eqb code 8) (eqb code 9))
-  where
-    go : (a b : Bool) → channelCount (cond a LeftSide (cond b SideRight MidSide)) ≡ 2
-    go true b = refl
-    go false true = refl
-    go false false = refl
-
--- what is not 0 is above it
-pub some : {n : ℕ} → (n ≡ 0 → ⊥) → ltb 0 n ≡ true
-some {n} h = lt-ltb 0 n (go n h)
-  where
-    go : (n : ℕ) → (n ≡ 0 → ⊥) → 0 < n
-    go zero h = absurd (h refl)
-    go (suc n) h = omega arith
-
-pub none : {n : ℕ} → n ≡ 0 → ltb 0 n ≡ false
-none {n} e = le-ltb 0 n (omega (arith, e))
-
--- eight channels of 65535 samples at most
-pub product-fits : (a b : ℕ) → a ≤ 8 → b ≤ 65535 → a * b < 2 ^ 64
-product-fits a b h g = omega (arith, mul-le-mul-right b h)
 
 -- ---- what fits w bits is below 2 ^ w once it is folded
 

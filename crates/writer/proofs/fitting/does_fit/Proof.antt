@@ -6,9 +6,9 @@ use lib.Dec.{ltb}
 use Rattle.reading.proofs.Bits.{one-shifted}
 use Rattle.rfc9639.specs.Coding.{fold}
 use Rattle.rfc9639.proofs.Machine.{widen-fits, widened}
-use Rattle.writer.proofs.Allowing.{fits-folded}
-use Rattle.writer.proofs.settings.does_fit.Statement.{statement}
-use Rattle.writer.proofs.settings.does_fit.Tie as tie
+use Rattle.writer.proofs.Fits.{fits-folded}
+use Rattle.writer.proofs.fitting.does_fit.Statement.{statement}
+use Rattle.writer.proofs.fitting.does_fit.Tie as tie
 
 cast-fold : tie.Need-cast-fold
 cast-fold c = widen-fits (c .fits .x)

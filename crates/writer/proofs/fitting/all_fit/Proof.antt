@@ -4,10 +4,10 @@ use borrow.Author.Needs.{needs}
 use mathlib.Core.Path.{_≡_, refl, sym, _∙_}
 use lib.ListN.{length, drop}
 use Rattle.rfc9639.specs.Write.{allFit}
-use Rattle.writer.proofs.Allowing.{fit-fails, fit-next, fit-end}
+use Rattle.writer.proofs.Fits.{fit-fails, fit-next, fit-end}
 use borrow.Author.Tests.{not-true, not-false}
-use Rattle.writer.proofs.settings.all_fit.Statement.{statement}
-use Rattle.writer.proofs.settings.all_fit.Tie as tie
+use Rattle.writer.proofs.fitting.all_fit.Statement.{statement}
+use Rattle.writer.proofs.fitting.all_fit.Tie as tie
 
 abbrev Inv-loop : tie.InvT-loop
 Inv-loop samples bits i₀ i = (i ≤ length samples) × (allFit bits (drop i samples) ≡ allFit bits samples)

@@ -2,8 +2,8 @@
 use borrow.Author.Tests.{ne-eqb}
 use mathlib.Core.Path.{refl}
 use Rattle.rfc9639.specs.Write.{numberLimit}
-use Rattle.writer.proofs.settings.number_limit.Statement.{statement}
-use Rattle.writer.proofs.settings.number_limit.Tie as tie
+use Rattle.bound.proofs.number_limit.Statement.{statement}
+use Rattle.bound.proofs.number_limit.Tie as tie
 
 returns : tie.Need-returns
 unfolding numberLimit

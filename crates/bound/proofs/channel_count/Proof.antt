@@ -3,9 +3,9 @@ use borrow.Author.Needs.{needs}
 use borrow.Author.Tests.{lt-ltb}
 use mathlib.Core.Path.{refl, sym}
 use Rattle.rfc9639.specs.Header.{assignment, channelCount}
-use Rattle.writer.proofs.Allowing.{count-of-pair}
-use Rattle.writer.proofs.settings.channel_count.Statement.{statement}
-use Rattle.writer.proofs.settings.channel_count.Tie as tie
+use Rattle.bound.proofs.Allowing.{count-of-pair}
+use Rattle.bound.proofs.channel_count.Statement.{statement}
+use Rattle.bound.proofs.channel_count.Tie as tie
 
 add-result : tie.Need-add-result
 add-result c = search needs

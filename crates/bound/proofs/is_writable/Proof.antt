@@ -2,8 +2,8 @@
 use borrow.Author.Tests.{ne-eqb}
 use mathlib.Core.Path.{refl}
 use Rattle.rfc9639.specs.Write.{writable}
-use Rattle.writer.proofs.settings.is_writable.Statement.{statement}
-use Rattle.writer.proofs.settings.is_writable.Tie as tie
+use Rattle.bound.proofs.is_writable.Statement.{statement}
+use Rattle.bound.proofs.is_writable.Tie as tie
 
 returns : tie.Need-returns
 unfolding writable
