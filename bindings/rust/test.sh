@@ -1,18 +1,18 @@
 #!/bin/sh
-# Runs the binding's tests and the examples in its documentation, offline: sh bindings/rust/test.sh. Where cargo is not there
-# it says so, with the word 'skipped'.
+# Runs the binding's tests and the examples in its documentation, offline: sh bindings/rust/test.sh. Where cargo or a
+# linker is not at hand a line that starts with 'not compared: ' says so, and the status is 0.
 set -u
-cd "$(dirname "$0")" || exit 2
-if ! cargo --version >/dev/null 2>&1 || ! command -v cc >/dev/null 2>&1; then
-    echo "binding: skipped, since cargo or the linker cc is not there"
+name=bindings/rust/test.sh
+root=$(cd "$(dirname "$0")/../.." && pwd) || exit 2
+missing=''
+cargo --version >/dev/null 2>&1 || missing="$missing, no cargo that runs"
+command -v cc >/dev/null 2>&1 || missing="$missing, no linker cc on the PATH"
+if [ -n "$missing" ]; then
+    echo "not compared: the Rust binding with its tests ($name), since there is${missing#,}"
     exit 0
 fi
-if [ -z "${THRIFTACORN_LIB:-}" ] && [ "$(uname -m)" != x86_64 ]; then
-    echo "binding: skipped, since 'rt staticlib' writes for x86-64; THRIFTACORN_LIB may name a folder that has another"
-    exit 0
-fi
-library=${THRIFTACORN_LIB:-../../target/staticlib}
-if [ ! -f "$library/libthriftacorn.a" ]; then
-    (cd ../.. && rt staticlib thriftacorn) || exit 1
-fi
+# shellcheck source=bindings/library.sh
+. "$root/bindings/library.sh"
+export THRIFTACORN_LIB="$library"
+cd "$root/bindings/rust" || exit 2
 exec cargo test --offline --quiet

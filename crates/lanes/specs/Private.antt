@@ -1,4 +1,5 @@
--- What a fixed predictor makes of the samples before one.
+-- What a fixed predictor makes of the samples before one: only contracts of private functions name it, so nobody has to
+-- believe it.
 use Prim.Native.Nat.{ℕ}
 use mathlib.Core.List.{List, reverse}
 use lib.IntN.{ℤ, pos}

@@ -1,4 +1,5 @@
--- The sum of each byte by itself: what a table of a check sum holds.
+-- The sum of each byte by itself: what a table of a check sum holds. Only contracts of private functions name it, so nobody
+-- has to believe it.
 use Prim.Native.Nat.{ℕ, zero, suc}
 use mathlib.Core.List.{List, [], _∷_}
 use Rattle.reading.specs.Bytes.{bitsOfByte}

@@ -1,15 +1,18 @@
--- What the answers of a channel's functions mean, in the words of the definition, and what they ask of each other.
+-- What the answers of a channel's private functions mean, in the words of the definition, and what they ask of each other:
+-- only contracts of private functions name it, so nobody has to believe it.
 use Prim.Native.Nat.{ℕ, _-_, _≤_}
 use mathlib.Core.List.{List, _++_}
 use lib.IntN.{ℤ, pos}
 use lib.ListN.{length, replicate}
 use Rattle.reading.specs.Reading.{Ask, done, stop}
-use Rattle.reading.specs.Places.{At, gotAt}
+use Rattle.reading.specs.Places.{At, gotAt, shortAt}
 use Rattle.error.specs.Numbers.{refusedBy}
 use Rattle.rfc9639.specs.declared.SubframeType.{SubframeType}
 use Rattle.rfc9639.specs.declared.SubframeType.the-variants.{Constant, Verbatim, Fixed, Lpc}
 use Rattle.rfc9639.specs.declared.SubframeHeader.{SubframeHeader}
 use Rattle.subframe.specs.declared.answers.Kind.{Kind}
+use Rattle.subframe.specs.declared.answers.Sample.{Sample}
+use Rattle.subframe.specs.declared.answers.Sample.the-variants.{Value, Short}
 use Rattle.subframe.specs.declared.answers.Wasted.{Wasted}
 use Rattle.subframe.specs.declared.answers.HeaderRead.{HeaderRead}
 use Rattle.subframe.specs.declared.answers.Quantizer.{Quantizer}
@@ -50,3 +53,9 @@ quantized (Quantizer.Refused e) = refusedBy e
 -- with zeros behind them, n in all
 abbrev pub padded : ℕ → List ℤ → List ℤ
 padded n xs = xs ++ replicate (n - length xs) (pos 0)
+
+-- ---- one sample
+
+abbrev pub sampled : Sample → At ℤ
+sampled (Value x p) = gotAt x p
+sampled Short = shortAt

@@ -1,4 +1,5 @@
--- What the pieces of the choice come to: the sums of the quotients by each parameter, and the choices that they make.
+-- What the pieces of the choice come to: the sums of the quotients by each parameter, and the choices that they make. Only
+-- contracts of private functions name it, so nobody has to believe it.
 use Prim.Native.Nat.{ℕ, suc, _+_, _*_, _/_, _^_, _<_}
 use mathlib.Core.List.{List, [], _∷_, map}
 use lib.IntN.{ℤ}

@@ -1,4 +1,5 @@
--- What the footer's answer means, in the words of the definition.
+-- What the footer's answer means, in the words of the definition: only contracts of private functions name it, so nobody
+-- has to believe it.
 use Rattle.reading.specs.Places.{At, gotAt}
 use Rattle.error.specs.declared.Refusal.{Refusal}
 use Rattle.error.specs.Numbers.{refusedBy}
