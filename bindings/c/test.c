@@ -2,7 +2,7 @@
  * The header's functions, called as C and as C++: RFC 9639's first frame, half of a frame that holds it, frame after
  * frame, writing and reading back, access to a block, and every value that a pointer leads to after a refusal.
  */
-#include "thriftacorn.h"
+#include <thriftacorn.h>
 
 #include <stdio.h>
 #include <string.h>
@@ -23,17 +23,23 @@ static void check(int right, int line, const char *what)
 static const uint8_t whole[15] = {0xFF, 0xF8, 0x69, 0x18, 0x00, 0x00, 0xBF, 0x03,
                                   0x58, 0xFD, 0x03, 0x12, 0x8B, 0xAA, 0x9A};
 
-/* One channel, 8 bits, 191 verbatim samples; fifteen of them, from byte 107 on, are the bytes of `whole`. */
+/*
+ * One channel, 8 bits, 191 verbatim samples; fifteen of them, from byte 107 on, are the bytes of `whole`. It is the
+ * stored case `frame-in-sound` of cases/runner.txt.
+ */
 #define HOLDING 201
 #define INSIDE 107
 static void make_holding(uint8_t frame[HOLDING])
 {
     static const uint8_t head[8] = {0xFF, 0xF8, 0x60, 0x02, 0x00, 0xBE, 0x0F, 0x02};
-    memset(frame, 0, HOLDING);
+    int i;
     memcpy(frame, head, sizeof head);
+    for (i = 0; i < 191; i++) {
+        frame[8 + i] = (uint8_t)(i * i % 251 - 125);
+    }
     memcpy(frame + INSIDE, whole, sizeof whole);
-    frame[199] = 0x46;
-    frame[200] = 0xFA;
+    frame[199] = 0x17;
+    frame[200] = 0x03;
 }
 
 static void fill(int32_t *samples, size_t count, int32_t value)
@@ -93,7 +99,7 @@ static void test_holding(void)
     CHECK(place == INSIDE && frame.consumed == 15 && frame.channels == 2);
     CHECK(thriftacorn_read_frame(bytes, HOLDING, samples, 256, &frame) == THRIFTACORN_OK);
     CHECK(frame.consumed == HOLDING && frame.channels == 1 && frame.bits == 8 && frame.block_size == 191);
-    CHECK(samples[98] == 0 && samples[99] == -1 && samples[100] == -8 && samples[101] == 0x69);
+    CHECK(samples[0] == -125 && samples[99] == -1 && samples[100] == -8 && samples[190] == 82);
 }
 
 static void test_next(void)

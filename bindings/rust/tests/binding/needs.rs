@@ -1,20 +1,19 @@
 //! What each refusal asks of the caller, and the input on which a caller who does not ask finds a frame inside the
 //! sound.
 use crate::{told, Told, WHOLE, WHOLE_TOLD};
-use thriftacorn::{read_frame, Frames, Need, Refusal};
+use thriftacorn::{read_frame, write_frame, Frames, Need, Refusal, WriteSettings};
 
 /// Where the sound holds RFC 9639's first frame.
 const INSIDE: usize = 107;
 const HOLDING_TOLD: Told = (201, Some(0), 1, 8, 191);
 
-/// One channel, 8 bits, 191 verbatim samples, block size code 6. Fifteen of the samples are the bytes of `WHOLE`,
-/// with both its check sums.
+/// One channel, 8 bits, 191 verbatim samples, block size code 6. Fifteen of the samples are the bytes of `WHOLE`, with
+/// both its check sums. It is the stored case `frame-in-sound` of cases/runner.txt.
 fn holding() -> Vec<u8> {
     let mut frame = vec![0xFF, 0xF8, 0x60, 0x02, 0x00, 0xBE, 0x0F, 0x02];
-    frame.extend([0; 99]);
-    frame.extend(WHOLE);
-    frame.extend([0; 77]);
-    frame.extend([0x46, 0xFA]);
+    frame.extend((0..191).map(|i| (i * i % 251 - 125) as u8));
+    frame[INSIDE..INSIDE + WHOLE.len()].copy_from_slice(&WHOLE);
+    frame.extend([0x17, 0x03]);
     frame
 }
 
@@ -54,6 +53,15 @@ fn half_a_frame_waits_though_a_frame_stands_inside_it() {
     assert_eq!(read_frame(&frame, &mut samples).map(told), Ok(HOLDING_TOLD));
     let sound: Vec<i32> = frame[8..199].iter().map(|&byte| i32::from(byte as i8)).collect();
     assert_eq!(samples[..191], sound[..]);
+}
+
+#[test]
+fn the_writer_writes_that_frame() {
+    let frame = holding();
+    let sound: Vec<i32> = frame[8..199].iter().map(|&byte| i32::from(byte as i8)).collect();
+    let mut out = [0; 256];
+    assert_eq!(write_frame(&sound, &WriteSettings::new(0, 8, 191), &mut out), Ok(201));
+    assert_eq!(out[..201], frame[..]);
 }
 
 /// Reads an input that comes in pieces of this length, by `needs` alone.
