@@ -34,7 +34,7 @@ struct Ours {
 
 impl Ours {
     fn new() -> Ours {
-        Ours { buffer: vec![1; ROOM], used: 0 }
+        Ours { buffer: vec![0; ROOM], used: 0 }
     }
 }
 
@@ -57,7 +57,7 @@ struct Claxon {
 
 impl Claxon {
     fn new() -> Claxon {
-        Claxon { buffer: vec![1; ROOM] }
+        Claxon { buffer: vec![0; ROOM] }
     }
 }
 

@@ -191,6 +191,10 @@ static void test_settings(void)
     settings.channel_code = THRIFTACORN_LEFT_SIDE;
     settings.block_size = 4096;
     CHECK(thriftacorn_longest(&settings) == 16914);
+    settings.number = UINT64_C(1) << 31;
+    CHECK(thriftacorn_longest(&settings) == 0);
+    settings.blocking = THRIFTACORN_VARIABLE;
+    CHECK(thriftacorn_longest(&settings) == 16914);
 }
 
 static void test_block(void)
