@@ -5,9 +5,9 @@
  * answer is fixed too (docs/PROMISES.md in the repository). Nothing is allocated or kept between calls, so any number
  * of threads may call.
  *
- * HALF A FRAME IS NOT A BAD FRAME. Ask thriftacorn_needs() what a refusal wants. After THRIFTACORN_NEED_WAIT wait for
- * more bytes and read again from the same place. To jump ahead and hunt for the next sync code is right after
- * THRIFTACORN_NEED_FINAL alone: sound may hold any bytes, those of a whole frame with both its check sums among them.
+ * HALF A FRAME IS NOT A BAD FRAME. Ask thriftacorn_needs() what a refusal wants. On THRIFTACORN_NEED_WAIT wait for more
+ * bytes and read again from the same place. Only on THRIFTACORN_NEED_FINAL may a program jump ahead and hunt for the
+ * next sync code: sound may hold any bytes, those of a whole frame with both its check sums among them.
  *
  * What lasts. A function whose name ends in _v1 keeps its arguments and its meaning, and one without it, which is part
  * of this header, keeps them too: settings for reading will come with a struct and with functions of their own. A later

@@ -2,8 +2,8 @@
 //!
 //! [`read_frame`] reads the frame that starts a slice into lent samples, [`Frames`] reads frame after frame,
 //! [`write_frame`] writes one into a lent slice. All are proved against a definition of RFC 9639: every input and every
-//! buffer gets one answer, and what the buffers hold afterwards is fixed too. Nothing is allocated, panics or is kept
-//! between calls.
+//! buffer gets one answer, and what the buffers hold afterwards is fixed too. No call allocates or panics, and nothing
+//! is kept between calls.
 //!
 //! ```
 //! use thriftacorn::{read_frame, Refusal};
@@ -19,9 +19,9 @@
 //!
 //! # What a refusal asks of you
 //!
-//! A [`Refusal`] is one of three things, and [`Refusal::needs`] says which: wait for more bytes, lend more room, or
-//! final. Half a frame is not a bad frame. To jump ahead and hunt for the next sync code is right after a final
-//! refusal alone: sound may hold any bytes, those of a whole frame with both its check sums among them.
+//! A [`Refusal`] wants more bytes, or more room, or is final, and [`Refusal::needs`] says which. Half a frame is not a
+//! bad frame. Only after a final refusal may a program jump ahead and hunt for the next sync code: sound may hold any
+//! bytes, those of a whole frame with both its check sums among them.
 //!
 //! ```
 //! use thriftacorn::{read_frame, Need, Refusal};
@@ -40,11 +40,11 @@
 //! let refusal = read_frame(so_far, &mut samples).unwrap_err();
 //! assert_eq!((refusal, refusal.needs()), (Refusal::CutShort, Need::Wait));
 //!
-//! // Who takes that for a bad frame, and hunts on, finds one at byte 107 that nobody recorded.
+//! // A program that takes this for a bad frame, and hunts on, finds one at byte 107 that nobody recorded.
 //! let found = (1..so_far.len()).find(|&place| read_frame(&so_far[place..], &mut samples).is_ok());
 //! assert_eq!(found, Some(107));
 //!
-//! // Who waits has the frame.
+//! // A program that waits gets the frame.
 //! let whole = read_frame(&frame, &mut samples)?;
 //! assert_eq!((whole.consumed, whole.channels, whole.block_size), (201, 1, 191));
 //! # Ok::<(), Refusal>(())
