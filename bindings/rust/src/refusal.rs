@@ -109,8 +109,8 @@ impl Refusal {
         matches!(self.needs(), Need::Room)
     }
 
-    /// Whether neither more bytes nor more room changes it: [`Need::Final`]. Only such a refusal says that no frame will
-    /// be read at this place.
+    /// Whether neither more bytes nor more room changes it: [`Need::Final`]. Only such a refusal says that no frame
+    /// will be read at this place.
     pub const fn is_final(self) -> bool {
         matches!(self.needs(), Need::Final)
     }
