@@ -1,7 +1,8 @@
 #!/bin/sh
 # The gate. From a fresh clone: sh test.sh
 # It holds the kit to the one that README.md names, the layout to the formatter's, and then proves every crate, tries
-# every must-fail edit and runs every program, all from nothing. Its last line is 'N passed, M failed'.
+# every must-fail edit and runs every program, all from nothing. Its last line is 'N passed, M failed'; the lines above
+# it that start with 'not compared: ' say what was left out, and what was not at hand for it.
 set -u
 cd "$(dirname "$0")" || exit 2
 
@@ -19,42 +20,67 @@ if ! rt fmt --check; then
     echo "test.sh: not in the formatter's layout: run 'rt fmt'" >&2
     exit 1
 fi
-log=$(mktemp) || exit 2
-trap 'rm -f "$log"' EXIT
+work=$(mktemp -d) || exit 2
+trap 'rm -rf "$work"' EXIT
+log=$work/log missing=$work/missing
+: >"$missing"
 passed=0 failed=0
-count() { # adds up the last line of the log, 'N passed, M failed' with a name before it or none
+
+fail() { # WORDS
+    failed=$((failed + 1))
+    echo "test.sh: $1"
+}
+
+run() { # COMMAND: shows what it writes, and adds up its last line, 'N passed, M failed' with a name before it or none
+    {
+        "$@" 2>&1
+        echo "$?" >"$work/status"
+    } | tee "$log"
     line=$(tail -n 1 "$log" | sed -n 's/^\([a-z_]*: \)\{0,1\}\([0-9]*\) passed, \([0-9]*\) failed$/\2 \3/p')
     if [ -z "$line" ]; then
-        failed=$((failed + 1))
-    else
-        passed=$((passed + ${line% *})) failed=$((failed + ${line#* }))
+        fail "'$*' does not end by saying how many passed and failed"
+        return
+    fi
+    passed=$((passed + ${line% *})) failed=$((failed + ${line#* }))
+    if [ "${line#* }" -eq 0 ] && [ "$(cat "$work/status")" -ne 0 ]; then
+        fail "'$*' ended with status $(cat "$work/status")"
+    elif [ "$line" = '0 0' ]; then
+        fail "'$*' had nothing to try"
     fi
 }
+
+# A script that could not do all says so in lines 'not compared: ...'. It is not counted, and the lines come at the end.
+compare() { # SCRIPT WORDS
+    if ! sh "$@" >"$log" 2>&1; then
+        fail "$1 failed"
+    elif ! grep -q '^not compared: ' "$log"; then
+        passed=$((passed + 1))
+    fi
+    grep '^not compared: ' "$log" >>"$missing"
+    grep -v '^not compared: ' "$log"
+}
+
 # rt starts so many at a time and waits for all of them: with more than there are processors, none of these stands idle.
 # A check takes less than a gigabyte.
 if [ -z "${RT_JOBS:-}" ]; then
     RT_JOBS=$(awk '/^MemAvailable/ { n = int($2 / 1500000); print (n > 6 ? 6 : n < 1 ? 1 : n) }' /proc/meminfo)
     export RT_JOBS
 fi
-rt ci 2>&1 | tee "$log"
-count
+run rt ci
 for program in runner read_probe write_probe; do
-    sh cases/run.sh "$program" 2>&1 | tee "$log"
-    count
+    run sh cases/run.sh "$program"
 done
 # The fixed list of claxon's answers, for which no Rust is wanted.
-sh cases/run.sh runner oracle 2>&1 | tee "$log"
-count
-# Side by side with claxon, and the Rust binding, where Rust and claxon's source are at hand: each says so where not.
-for script in 'oracle/run.sh --seconds 90' oracle/written.sh bindings/rust/test.sh; do
-    # shellcheck disable=SC2086
-    if ! sh $script >"$log" 2>&1; then
-        failed=$((failed + 1))
-        echo "test.sh: $script failed"
-    elif ! grep -q skipped "$log"; then
-        passed=$((passed + 1))
-    fi
-    cat "$log"
-done
+run sh cases/run.sh runner oracle
+# Side by side with claxon and flac, and the bindings, where Rust, claxon's source, flac and cc are at hand.
+compare oracle/run.sh --seconds 90
+compare oracle/written.sh
+compare bindings/rust/test.sh
+compare bindings/c/test.sh
+# Where CI has what most of these need, it is to have the rest.
+if [ "${CI:-}" = true ] && [ -s "$missing" ] && ! grep -q -e 'no rustc' -e 'no claxon' "$missing"; then
+    fail "this is CI, with Rust and claxon at hand, and still something was not compared"
+fi
+cat "$missing"
 echo "$passed passed, $failed failed"
 [ "$failed" -eq 0 ] && [ "$passed" -gt 0 ]

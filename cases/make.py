@@ -1,10 +1,13 @@
 """Writes the stored cases: runner.txt, read_probe.txt and write_probe.txt, a line each of name, input and output in hex,
 and card.bin.
 
-    python3 make.py
+    python3 cases/make.py
 
 The outputs are model.py's, which was held against claxon 0.4.3 on random frames and damaged copies of them, and writer.py's.
+How many cases a list has stands in COUNTS, which is changed by hand.
 """
+import hashlib
+import os
 import random
 
 import build
@@ -14,6 +17,10 @@ from build import Bits, constant, fixed, frame, header, lpc, start, verbatim
 
 WHOLE = bytes.fromhex("fff869180000bf0358fd03128baa9a")
 RFC3 = bytes.fromhex("fff868020017e944004f6f313d1047d227cb6d090831452bdc2822228057a3")
+D2 = [
+    bytes.fromhex("fff86998000f9912086701623d1442998f5df70d6fe00c17caeb21000ee7a77a24a1590c1217b603097b784faa9a33d285e070ad5b1b4851b4010d99d2cd1a68f1e6b810"),
+    bytes.fromhex("fff869180102a402c382c40bc14a03ee48dd03b67c1330"),
+]
 FLAC = bytes.fromhex("fff86598000f7114ffb9ffe90064ecec24023ade64d929789a923d8c005002740437055c80d00c0323a5d1091f5847a475452c0a")
 
 
@@ -64,6 +71,8 @@ def refused():
     yield "parameter-31", one(header(size=2, bits=8), start(10).put(1, 8).put(2, 8).put(1, 2).put(0, 4).put(31, 5))
     yield "frame-sum", frame(h, [constant(5, 16)], wrong=1)
     yield "rfc-3", RFC3
+    yield "largest-block", frame(header(size=65535), [constant(-5, 16)])
+    yield "largest-block-eight-channels", frame(header(size=65535, channels=7, bits=24), [constant(c, 24) for c in range(8)])
 
 
 def accepted(rng):
@@ -124,6 +133,64 @@ def differences():
             yield "difference-" + cells[1].replace(" ", "-").replace(",", ""), bytes.fromhex(cells[2].strip("`"))
 
 
+def sound(frames):
+    """The samples of these frames as a stream's MD5 has them: by time, channel beside channel, 16 bits each."""
+    out = b""
+    for data in frames:
+        r, xs = model.read(data, [0] * 64)
+        assert r[:2] == (0, len(data))
+        out += b"".join(model.little(xs[c * r[5] + t], 2) for t in range(r[5]) for c in range(r[3]))
+    return out
+
+
+def published():
+    """RFC 9639's appendix D. The samples of D.1 and D.2 have the MD5 that their streams name; D.3 has a partition that is
+    stored plain, which is not done."""
+    assert hashlib.md5(sound([WHOLE])).hexdigest() == "3e84b41807dc690307586a3dad1a2e0f"
+    assert hashlib.md5(sound(D2)).hexdigest() == "d5b0564975e98b8d8b930422757b8103"
+    yield "rfc9639-d1", WHOLE
+    yield "rfc9639-d2", D2[0] + D2[1]
+    yield "rfc9639-d2-first", D2[0]
+    yield "rfc9639-d2-second", D2[1]
+    yield "rfc9639-d3", RFC3
+
+
+def frame_in_sound():
+    """A frame whose sound holds RFC 9639's first frame, check sums and all, at byte 107. Of the first 161 bytes it is cut
+    short; whoever hunts on from there, and does not wait, finds the frame that is none."""
+    xs = [i * i % 251 - 125 for i in range(191)]
+    xs[99:114] = [model.signed(8, b) for b in WHOLE]
+    data = frame(header(size=191, bits=8), [verbatim(xs, 8)])
+    cut = data[:161]
+    assert len(data) == 201 and data == writer.frame(xs, **settings(0, 8, 191))
+    answers = [model.read(cut[at:], [0] * 191)[0][0] for at in range(108)]
+    assert answers == [2] + [3] * 106 + [0]
+    yield "frame-in-sound", data
+    yield "frame-in-sound-cut", cut
+    yield "frame-in-sound-hunted", cut[107:]
+
+
+def row_of(length):
+    """Frames in a row, so many bytes in all and few samples: most bytes are unary runs."""
+    row = FLAC + D2[0]
+    for k in range(6):
+        xs = [(-1) ** i * (1000 + 17 * i + k) for i in range(16)]
+        row += frame(header(size=16, bits=24, number=k), [fixed(xs, 24, 0, parameters=[0])])
+    zeros = 8 * (length - len(row) - 9) - 19
+    row += frame(mono(), [start(8).put(0, 2).put(0, 4).put(0, 4).unary(zeros)])
+    assert len(row) == length
+    return row
+
+
+def limits():
+    """Inputs about 32 KiB, which is as much as `runner` reads: a last frame that ends before that, there and one byte on,
+    and a byte more after the first two."""
+    for length in (32767, 32768, 32769):
+        yield f"bytes-{length}", row_of(length)
+    for length in (32767, 32768):
+        yield f"bytes-{length}-and-one", row_of(length) + b"\xff"
+
+
 def cuts(name, data):
     for n in range(len(data)):
         yield f"cut-{name}-{n}", data[:n]
@@ -138,6 +205,9 @@ def runner_cases():
     yield from cuts("whole", WHOLE)
     yield from cuts("flac", FLAC)
     yield from written()
+    yield from published()
+    yield from frame_in_sound()
+    yield from limits()
 
 
 def probe_cases():
@@ -149,7 +219,6 @@ def probe_cases():
     for name, data in [("frame", WHOLE), ("frame-sum", WHOLE[:-1] + b"\x00"), ("cut", WHOLE[:-1]), ("flac", FLAC)]:
         for room in (0, 1, 2, 3, 31, 32, 33):
             yield f"{name}-room-{room}", at(room, 7) + data
-    yield "room-65536", at(65536, 1)[:8] + WHOLE[:1]
     yield "room-65537", at(65537, 1) + WHOLE
     yield "fill-least", at(3, -(1 << 31)) + WHOLE
     yield "no-input", b""
@@ -224,7 +293,7 @@ def write_probe_cases():
 
 def write(name, cases, program):
     rows = [f"{case} {data.hex() or '-'} {program(data).hex() or '-'}\n" for case, data in cases]
-    rows = [row for row in rows if len(row) < 200000]
+    assert all(len(row) < 200000 for row in rows)
     with open(name, "w") as out:
         out.writelines(rows)
     print(name, len(rows))
@@ -247,6 +316,7 @@ def card():
 
 
 if __name__ == "__main__":
+    os.chdir(os.path.dirname(os.path.abspath(__file__)))
     write("runner.txt", runner_cases(), model.runner)
     write("read_probe.txt", probe_cases(), model.read_probe)
     write("write_probe.txt", write_probe_cases(), writer.write_probe)

@@ -1,9 +1,11 @@
 #!/bin/sh
 # Compares claxon 0.4.3 with this repository's reader on seeded inputs, and the program 'runner' on a sample of them:
 #     sh oracle/run.sh [--claxon DIR] [--inputs N] [--seconds N] [--seed N]
-# Without a number it reads five million inputs. Status 1 at the first difference that docs/DIFFERENCES.md does not list.
+# Without a number it reads five million inputs. Status 1 at the first difference that docs/DIFFERENCES.md does not
+# list.
 set -u
-name=oracle
+name=oracle/run.sh
+compared="claxon with this reader ($name)"
 # shellcheck source=oracle/build.sh
 . "$(dirname "$0")/build.sh"
 build oracle "$root/oracle/src/main.rs" || exit 1

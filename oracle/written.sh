@@ -3,6 +3,7 @@
 # All channel codes, all bits, many block sizes. Status 1 where the samples do not come back.
 set -u
 name=oracle/written.sh
+compared="claxon and flac with what the writer writes ($name)"
 # shellcheck source=oracle/build.sh
 . "$(dirname "$0")/build.sh"
 build written "$root/oracle/src/written.rs" || exit 1

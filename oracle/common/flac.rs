@@ -14,6 +14,12 @@ fn succeeds(command: &mut Command) -> bool {
     status.is_ok_and(|status| status.success())
 }
 
+/// What a command that succeeds has written to this file. What an earlier one left there does not count.
+fn written(command: &mut Command, output: &Path) -> Option<Vec<u8>> {
+    let _ = fs::remove_file(output);
+    succeeds(command).then(|| fs::read(output).ok()).flatten()
+}
+
 /// The words for samples without a file header: `flac` takes and gives them in whole bytes only.
 const RAW: [&str; 3] = ["--force-raw-format", "--endian=little", "--sign=signed"];
 
@@ -30,8 +36,7 @@ pub fn encode(folder: &Path, samples: &[i32], channels: usize, bits: u32, words:
     } else {
         fs::write(&input, wave(samples, channels, bits)).expect("the sound is written");
     }
-    let done = succeeds(command.args(words).arg("-o").args([&output, &input]));
-    done.then(|| fs::read(&output).expect("the stream is read"))
+    written(command.args(words).arg("-o").args([&output, &input]), &output)
 }
 
 /// Decodes a stream to interleaved samples; `None` where `flac` does not take it.
@@ -44,10 +49,7 @@ pub fn decode(folder: &Path, stream: &[u8], bits: u32) -> Option<Vec<i32>> {
     if bits % 8 == 0 {
         command.args(RAW);
     }
-    if !succeeds(command.arg("-o").args([&output, &input])) {
-        return None;
-    }
-    let bytes = fs::read(&output).expect("the sound is read");
+    let bytes = written(command.arg("-o").args([&output, &input]), &output)?;
     // A WAVE file's samples stand behind the word 'data' and their length.
     let start = match bits % 8 {
         0 => 0,

@@ -1,6 +1,7 @@
 //! What the oracle, its other programs and the benchmark share: numbers to draw, sound to encode, the program `flac`,
-//! and the two readers' answers.
+//! the check sums, and the two readers' answers.
 pub mod draw;
 pub mod flac;
 pub mod readers;
 pub mod signal;
+pub mod sums;

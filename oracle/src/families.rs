@@ -2,8 +2,9 @@
 use crate::fault::FAULTS;
 use crate::frame::{mend, write_frame, Sizes, Taste, Written};
 use crate::judge::Judge;
-use crate::pen::{crc8, Pen};
+use crate::pen::Pen;
 use common::draw::Draw;
+use common::sums::crc8;
 
 pub struct Family {
     pub name: &'static str,

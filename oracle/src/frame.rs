@@ -2,9 +2,10 @@
 use crate::fault::Fault::{self, *};
 use crate::header::Header;
 pub use crate::header::Sizes;
-use crate::pen::{crc16, crc8, Pen};
+use crate::pen::Pen;
 use crate::subframe::Subframe;
 use common::draw::Draw;
+use common::sums::{crc16, crc8};
 
 /// What kind of frame is wanted.
 #[derive(Clone, Copy)]

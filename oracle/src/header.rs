@@ -1,8 +1,9 @@
 //! Frame headers, freely drawn: every size, rate and number form, and each field wrong where that is asked for.
 use crate::cover::Field;
 use crate::fault::Fault::{self, *};
-use crate::pen::{crc8, Pen};
+use crate::pen::Pen;
 use common::draw::Draw;
+use common::sums::crc8;
 
 /// How large the blocks are.
 #[derive(Clone, Copy, Debug, PartialEq, Eq)]

@@ -2,7 +2,8 @@
 use crate::sample::Sample;
 use common::readers::{Answer, Claxon, Ours, ROOM};
 
-/// The entries of docs/DIFFERENCES.md at which the two answers part. At its other entries both part from the RFC alone.
+/// The entries of docs/DIFFERENCES.md at which the two answers part, as far as a family reaches them. At most of its
+/// other entries both part from the RFC alone.
 pub const LISTED: [&str; 4] = ["one byte of input", "bits code 7, 32 bits", "number starting with FF", "room"];
 
 /// How often each answer was seen in one family, by number. An input that got 7 is read again with enough room, and

@@ -109,6 +109,19 @@ fn report(judge: &Judge, seconds: f64) {
     println!("{} inputs in {seconds:.0} s, 0 differences off the list", judge.total);
 }
 
+/// Streams that `flac` encodes, where it is at hand. There it must encode some.
+fn encoded(judge: &mut Judge, wish: &Wish) {
+    if !flac::is_there() {
+        println!("not compared: claxon with this reader on what flac encodes, since there is no flac that runs");
+        return;
+    }
+    let streams = material::run(judge, &wish.work, wish.seed);
+    println!("{streams} streams encoded by flac");
+    if streams == 0 {
+        std::process::exit(1);
+    }
+}
+
 fn main() {
     let wish = wish();
     std::panic::set_hook(Box::new(|_| {}));
@@ -119,16 +132,12 @@ fn main() {
     let start = Instant::now();
     let mut judge = Judge::new(sample);
     short::run(&mut judge);
-    if flac::is_there() {
-        println!("{} streams encoded by flac", material::run(&mut judge, &wish.work, wish.seed));
-    } else {
-        println!("flac is not at hand: no material encoded by it");
-    }
+    encoded(&mut judge, &wish);
     rounds(&mut judge, &wish, start);
     report(&judge, start.elapsed().as_secs_f64());
     match &wish.list {
         Some(path) => program::write_list(&judge.sample.kept, path),
-        None if wish.runner.is_empty() => println!("runner: skipped, the program is not built"),
+        None if wish.runner.is_empty() => println!("not compared: claxon with runner, since it is not built"),
         None => program::compare(&judge.sample.kept, &wish.runner),
     }
 }

@@ -1,6 +1,6 @@
 //! Every short input there is, and every value of a few bytes where that is not too many.
 use crate::judge::Judge;
-use crate::pen::{crc16, crc8};
+use common::sums::{crc16, crc8};
 
 pub fn run(judge: &mut Judge) {
     let family = judge.family("short");

@@ -121,6 +121,6 @@ fn main() {
     if flac {
         println!("flac reads {streams} streams of them, all with their samples");
     } else {
-        println!("flac: skipped, it is not at hand");
+        println!("not compared: flac with what the writer writes, since there is no flac that runs");
     }
 }

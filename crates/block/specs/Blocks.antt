@@ -1,27 +1,22 @@
 -- What access to a block's samples answers. A block of `channels` times `size` samples stands channel after channel.
 use Prim.Native.Nat.{ℕ, _+_, _*_}
 use mathlib.Core.Bool.{_&&_}
-use mathlib.Core.List.{List, []}
+use mathlib.Core.List.{List}
 use lib.Dec.{leb, ltb, eqb}
 use lib.IntN.{ℤ, pos}
-use lib.ListN.{length, getD, take, drop}
+use lib.ListN.{length, getD}
 use Rattle.reading.specs.Reading.{if_then_else_}
 use Rattle.error.specs.declared.Refusal.{Refusal}
 use Rattle.block.specs.declared.Block.{Block}
-use Rattle.block.specs.declared.Part.{Part}
+use Rattle.block.specs.declared.ChannelAt.{ChannelAt}
 use Rattle.block.specs.declared.SampleAt.{SampleAt}
 use Rattle.block.specs.declared.PairAt.{PairAt}
 
 -- a channel of the block, and all its samples there
-unfoldable pub partOf : ℕ → Block → ℕ → Part
-partOf n b channel =
-    if ltb channel (b .channels) && leb (b .channels * b .size) n then Part.Range (channel * b .size) (channel * b .size + b .size)
-    else Part.Refused Refusal.BadArgument
-
-unfoldable pub channelOf : List ℤ → Block → ℕ → List ℤ
-channelOf l b channel =
-    if ltb channel (b .channels) && leb (b .channels * b .size) (length l) then take (b .size) (drop (channel * b .size) l)
-    else []
+unfoldable pub channelOf : ℕ → Block → ℕ → ChannelAt
+channelOf n b channel =
+    if ltb channel (b .channels) && leb (b .channels * b .size) n then ChannelAt.Range (channel * b .size) (channel * b .size + b .size)
+    else ChannelAt.Refused Refusal.BadArgument
 
 unfoldable pub sampleOf : List ℤ → Block → ℕ → ℕ → SampleAt
 sampleOf l b channel index =

@@ -13,7 +13,7 @@ use Rattle.rfc9639.specs.Coding.{uniform, counting, fixedOnes, candidates, fewe
 use Rattle.rfc9639.proofs.Choosing.{fewestOf-append}
 use Rattle.choice.specs.declared.Choice.{Choice}
 use Rattle.choice.specs.Choices.{choiceOf}
-use Rattle.choice.specs.Tallies.{priced, weight, plainestOf}
+use Rattle.choice.specs.Private.{priced, weight, plainestOf}
 use Rattle.choice.proofs.Pricing.{fewest-priced}
 
 -- how many orders there are

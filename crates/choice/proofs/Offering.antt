@@ -9,7 +9,7 @@ use lib.Seq.{drop-cons}
 use Rattle.rfc9639.specs.declared.Candidate.the-variants.{Fixed}
 use Rattle.rfc9639.specs.Coding.{fewestOf}
 use Rattle.choice.specs.declared.Choice.{Choice}
-use Rattle.choice.specs.Tallies.{weight, offers}
+use Rattle.choice.specs.Private.{weight, offers}
 
 -- The whole answer is the answer from here: k parameters are judged.
 pub record Offered (order head count : ℕ) (qs : List ℕ) (best₀ best : Choice) (k : ℕ) : Type 0 where

@@ -12,7 +12,7 @@ use Rattle.rfc9639.specs.declared.Candidate.the-variants.{Constant, Verbatim, F
 use Rattle.rfc9639.specs.Coding.{fold, fixedResiduals, uniform, counting, fewestOf, cost}
 use Rattle.rfc9639.proofs.Costs.{quotients, cost-constant, cost-verbatim, cost-fixed}
 use Rattle.choice.specs.declared.Choice.{Choice}
-use Rattle.choice.specs.Tallies.{priced, weight, plainestOf, sumBy, sumsOf, offers}
+use Rattle.choice.specs.Private.{priced, weight, plainestOf, sumBy, sumsOf, offers}
 
 -- a candidate with bits that are counted elsewhere
 abbrev pub made : Candidate → ℕ → Choice

@@ -11,7 +11,7 @@ use lib.Pow.{shr-le}
 use lib.Seq.{take-suc, take-suc-set, drop-cons, drop-set-lt, getD-set-other, append-snoc, take-all}
 use Rattle.rfc9639.specs.Coding.{fold, counting}
 use Rattle.lanes.proofs.Missing.{fold-lt}
-use Rattle.choice.specs.Tallies.{sumBy, sumsOf, joined, Under}
+use Rattle.choice.specs.Private.{sumBy, sumsOf, joined, Under}
 
 -- ---- one residual comes in, sum by sum
 

@@ -1,3 +1,3 @@
 -- What the answer of this crate means, and what its pieces come to.
 pub mod Choices
-pub mod Tallies
+pub mod Private

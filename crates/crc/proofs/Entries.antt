@@ -9,7 +9,7 @@ use lib.ListN.{getD}
 use lib.Pow.{shr-lt}
 use Rattle.reading.specs.Bytes.{bitsOfByte}
 use Rattle.rfc9639.specs.CheckSums.{crcBits}
-use Rattle.crc.specs.ByteSums.{sumsFrom, byteSums}
+use Rattle.crc.specs.Private.{sumsFrom, byteSums}
 use Rattle.crc.proofs.Sums.{crc-byte}
 
 sum-at : (w poly i n k : ℕ) → k < n → getD (sumsFrom w poly i n) k 0 ≡ crcBits w poly 0 (bitsOfByte (i + k))

@@ -1,13 +1,11 @@
 -- Any two outcomes that meet a public function's contract are equal. Assumes nothing.
-use Prim.Native.Nat.{ℕ}
-use mathlib.Core.Path.{_≡_}
-use mathlib.Core.List.{List}
-use Rattle.reading.proofs.Outcome.{one}
-use Rattle.reading.specs.Bytes.{bitsOfBytes}
-use Rattle.rfc9639.specs.CheckSums.{crc8, crc16}
+use mathlib.Core.Path.{refl}
+use Rattle.reading.proofs.Outcome.{OneOutcome, one}
+use Rattle.crc.proofs.crc8
+use Rattle.crc.proofs.crc16
 
-pub crc8-one : (s : List ℕ) (r r′ : ℕ) → r ≡ crc8 (bitsOfBytes s) → r′ ≡ crc8 (bitsOfBytes s) → r ≡ r′
-crc8-one s r r′ = one
+pub crc8-one : OneOutcome crc8.ended crc8.Reads.Learnt
+crc8-one κs args r r′ left left′ p q = (one p q, refl)
 
-pub crc16-one : (s : List ℕ) (r r′ : ℕ) → r ≡ crc16 (bitsOfBytes s) → r′ ≡ crc16 (bitsOfBytes s) → r ≡ r′
-crc16-one s r r′ = one
+pub crc16-one : OneOutcome crc16.ended crc16.Reads.Learnt
+crc16-one κs args r r′ left left′ p q = (one p q, refl)

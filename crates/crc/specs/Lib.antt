@@ -1,2 +1,2 @@
 -- What the tables hold.
-pub mod ByteSums
+pub mod Private

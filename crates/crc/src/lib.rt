@@ -10,7 +10,7 @@ use tables::CRC16_TABLE;
 ghost use mathlib.Core.Path.{_≡_};
 ghost use Rattle.reading.specs.Bytes.{bitsOfByte, bitsOfBytes};
 ghost use Rattle.rfc9639.specs.CheckSums.{crcBits, crc8 as crc8Of, crc16 as crc16Of};
-ghost use Rattle.crc.specs.ByteSums.{byteSums};
+ghost use Rattle.crc.specs.Private.{byteSums};
 
 // A byte more in a CRC-8: the polynomial is x^8 + x^2 + x + 1. The table is lent, so that it is laid out once a sum and
 // not once a byte.

@@ -1,5 +1,5 @@
 // The tables of the two check sums, as in claxon and libFLAC. Each is held, as a whole, to the sums that the definition
-// gives (specs/ByteSums.antt).
+// gives (specs/Private.antt).
 
 // Entry i is the CRC-8 of the byte i.
 pub const CRC8_TABLE: [u8; 256] = [

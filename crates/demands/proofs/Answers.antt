@@ -18,7 +18,7 @@ use Rattle.rfc9639.specs.declared.FrameHeader.{FrameHeader}
 use Rattle.rfc9639.specs.Header.{sampleCount}
 use Rattle.rfc9639.specs.Frame.{Settings, opening, Frame, frame}
 use Rattle.rfc9639.specs.Read.{refusal, accepted, Result, untouched, zeroed, cutShort, begun, finished, resultOf, result}
-use Rattle.demands.proofs.Frames.{Listed}
+use Rattle.demands.proofs.Frames.{Listed, Early}
 use Rattle.demands.proofs.Runs.{frame-begun, opening-more}
 use Rattle.demands.proofs.Samples.{Open, Whole, opening-holds, begun-holds, frame-holds}
 
@@ -29,7 +29,7 @@ refused-short : {A : Type 0} (n : ℕ) → _≡_ {A = At A} (refusedAt n) shortA
 refused-short n e = let z : _≡_ {A = ℕ} 0 1 = cc in omega arith
 
 -- nothing left or cut short: 1 or 2
-cut-number : (s : List ℕ) → (cutShort s ≡ 0 → ⊥) × (cutShort s ≤ 2)
+pub cut-number : (s : List ℕ) → (cutShort s ≡ 0 → ⊥) × (cutShort s ≤ 2)
 unfolding cutShort
 cut-number [] = (λ e. omega arith, omega arith)
 cut-number (b ∷ s) = (λ e. omega arith, omega arith)
@@ -62,7 +62,7 @@ module _ (set : Settings) (s : List ℕ) where
       → (end .bit ≡ 0) × ((p : Place) × (runAt (begun set) s (placeOf 0) ≡ gotAt (f .header) p))
   had-begun e =
       frame-begun set s (placeOf 0)
-      (λ h p o. subst (Meets Listed (Open set)) o (holds-at Listed (Open set) s (placeOf 0) (opening-holds set)) .sound .mono)
+      (λ h p o. subst (Meets Early (Open set)) o (holds-at Early (Open set) s (placeOf 0) (opening-holds set)) .sound .mono)
       e
 
   -- what reading a frame comes to
@@ -91,7 +91,7 @@ module _ (set : Settings) (s : List ℕ) where
       go (gotAt h p) e (gotAt f end) g z = frame-read g
       go (gotAt h p) e (refusedAt n) g z = absurd (omega (arith, subst (Meets Listed (Whole set)) g (holds-at Listed (Whole set) s (placeOf 0) (frame-holds set))))
       go (gotAt h p) e shortAt g z = absurd (omega arith)
-      go (refusedAt n) e y g z = absurd (omega (arith, subst (Meets Listed (Open set)) e (holds-at Listed (Open set) s (placeOf 0) (begun-holds set))))
+      go (refusedAt n) e y g z = absurd (omega (arith, subst (Meets Early (Open set)) e (holds-at Early (Open set) s (placeOf 0) (begun-holds set))))
       go shortAt e y g z = absurd (cut-number s .0 z)
 
   -- every number is one of document 01's
@@ -103,7 +103,7 @@ module _ (set : Settings) (s : List ℕ) where
       go (gotAt h p) e (gotAt f end) g = omega arith
       go (gotAt h p) e (refusedAt n) g = omega (arith, subst (Meets Listed (Whole set)) g (holds-at Listed (Whole set) s (placeOf 0) (frame-holds set)))
       go (gotAt h p) e shortAt g = omega arith
-      go (refusedAt n) e y g = omega (arith, subst (Meets Listed (Open set)) e (holds-at Listed (Open set) s (placeOf 0) (begun-holds set)))
+      go (refusedAt n) e y g = omega (arith, subst (Meets Early (Open set)) e (holds-at Early (Open set) s (placeOf 0) (begun-holds set)))
       go shortAt e y g = omega (arith, cut-number s .1)
 
   -- what is written has room
@@ -112,7 +112,7 @@ module _ (set : Settings) (s : List ℕ) where
   front-room = go (runAt (begun set) s (placeOf 0)) refl (runAt (frame set) s (placeOf 0)) refl
     where
       opened : {h : FrameHeader} {p : Place} → runAt (begun set) s (placeOf 0) ≡ gotAt h p → Open set h
-      opened e = subst (Meets Listed (Open set)) e (holds-at Listed (Open set) s (placeOf 0) (begun-holds set))
+      opened e = subst (Meets Early (Open set)) e (holds-at Early (Open set) s (placeOf 0) (begun-holds set))
 
       go : (x : At FrameHeader) → runAt (begun set) s (placeOf 0) ≡ x → (y : At Frame) → runAt (frame set) s (placeOf 0) ≡ y
           → length (resultOf s x y .front) ≤ set .room

@@ -2,7 +2,7 @@
 -- those that it needs; more room changes nothing but a lack of it; what the buffer held sways nothing. All of it follows
 -- from the prefix rules, which hold of every reader (reading, proofs/Prefix), and from no detail of the format.
 -- Assumes nothing.
-use Prim.Native.Nat.{ℕ, zero, suc, _*_, _≤_, _<_}
+use Prim.Native.Nat.{ℕ, _*_, _≤_, _<_}
 use native.Mathlib.Omega.{arith}
 use mathlib.Core.Logic.{_≢_}
 use mathlib.Core.Path.{_≡_, refl, ap, sym, _∙_, subst}
@@ -10,22 +10,21 @@ use mathlib.Core.List.{List, [], _++_, append-assoc}
 use lib.IntN.{ℤ}
 use lib.ListN.{length, take, drop, length-append, length-drop}
 use lib.Seq.{drop-append-le, take-append-seam, drop-append-seam}
-use Rattle.reading.specs.Reading.{bitsFrom, answer, follow, run, _>>=_, bits}
-use Rattle.reading.specs.Bytes.{bitsOfBytes}
-use Rattle.reading.specs.Places.{runAt, inside, toAt, placeOf}
+use Rattle.reading.specs.Places.{placeOf}
 use Rattle.reading.proofs.Holding.{Meets, holds-at, Sized, Every}
-use Rattle.rfc9639.specs.Header.{sync, codes, header, sampleCount}
-use Rattle.rfc9639.specs.Frame.{Settings, opening, frame}
-use Rattle.rfc9639.specs.Read.{refusal, accepted, Result, untouched, cutShort, begun, resultOf, result, Outcome, read}
+use Rattle.rfc9639.specs.Header.{sampleCount}
+use Rattle.rfc9639.specs.Frame.{Settings}
+use Rattle.rfc9639.specs.Read.{accepted, Result, result, Outcome, read}
 use Rattle.demands.proofs.Frames.{Listed}
 use Rattle.demands.proofs.Samples.{Sample, Whole, frame-holds}
 use Rattle.demands.proofs.Answers
+use Rattle.demands.proofs.FrameByFrame
 
 -- what a result comes to in a buffer
-filled : List ℤ → Result → Outcome
+pub filled : List ℤ → Result → Outcome
 filled b r = record { report = r .report; buffer = r .front ++ drop (length (r .front)) b }
 
-read-is : (s : List ℕ) (b : List ℤ) → read s b ≡ filled b (result (record { room = length b }) s)
+pub read-is : (s : List ℕ) (b : List ℤ) → read s b ≡ filled b (result (record { room = length b }) s)
 unfolding read filled
 read-is s b = refl
 
@@ -52,20 +51,13 @@ module _ (s : List ℕ) (b : List ℤ) (frame : read s b .report .number ≡ 0) 
   fewer-cut-short m some l = Answers.fewer (record { room = length b }) s frame m some l
 
 pub nothing-left : (b : List ℤ) → read [] b .report .number ≡ 1
-unfolding read result begun opening header codes sync bits _>>=_ runAt inside toAt run follow answer bitsFrom bitsOfBytes resultOf untouched refusal cutShort
-nothing-left b = refl
+unfolding read
+nothing-left b = FrameByFrame.nothing-left (record { room = length b })
 
 -- so an accepted frame has a byte at least
 pub counted-some : (s : List ℕ) (b : List ℤ) → read s b .report .number ≡ 0 → 0 < read s b .report .consumed
-counted-some s b z = go (read s b .report .consumed) refl
-  where
-    go : (n : ℕ) → read s b .report .consumed ≡ n → 0 < n
-    go zero e =
-        absurd
-        (let same = sym (ap (λ n. read (take n s) b) e) ∙ counted-suffice s b z in
-        let one = nothing-left b in
-        omega (arith, ap (λ o. o .report .number) same))
-    go (suc n) e = omega arith
+unfolding read
+counted-some s b z = FrameByFrame.some-byte (record { room = length b }) s z
 
 -- ---- 3. More room changes no answer but 7: number, reports and samples are the same, and what the buffer has more is
 -- untouched.

@@ -20,9 +20,29 @@ use Rattle.rfc9639.proofs.Listing.{channels-between}
 abbrev pub Listed : ℕ → Type 0
 Listed n = (3 ≤ n) × (n ≤ 10)
 
+-- those of a header and of what is judged right after it
+abbrev pub Early : ℕ → Type 0
+Early n = (3 ≤ n) × (n ≤ 8)
+
+-- those of the subframes and the footer
+pub data Late : ℕ → Type 0 where
+  forbidden : Late 4
+  not-done : Late 8
+  bad-shape : Late 9
+  frame-sum : Late 10
+
+pub early-listed : (n : ℕ) → Early n → Listed n
+early-listed n h = omega arith
+
+pub late-listed : (n : ℕ) → Late n → Listed n
+late-listed n forbidden = omega arith
+late-listed n not-done = omega arith
+late-listed n bad-shape = omega arith
+late-listed n frame-sum = omega arith
+
 -- ---- the number
 
-follows : (n v : ℕ) → Holds Listed (λ x. x < suc v * 64 ^ n) (followed n v)
+follows : (n v : ℕ) → Holds Early (λ x. x < suc v * 64 ^ n) (followed n v)
 unfolding followed
 follows zero v = value {a = v} (rw mul-one (omega arith))
 follows (suc n) v =
@@ -33,7 +53,7 @@ follows (suc n) v =
     (rw (pow-suc 64 n, mul-comm (64 ^ n) 64, ← mul-assoc (suc v) 64 (64 ^ n)) (mul-le-mul-right (64 ^ n) (omega arith))))
     (follows n (v * 64 + b % 64))))
 
-pub number-holds : Holds Listed (λ x. x < 2 ^ 36) codedNumber
+pub number-holds : Holds Early (λ x. x < 2 ^ 36) codedNumber
 unfolding codedNumber numberFrom
 number-holds =
     holds-bind _ (holds-bits 8)
@@ -56,7 +76,7 @@ pub record Sound (h : FrameHeader) : Type 0 where
   pub bits : h .bits ≤ 24
   pub first : firstSample h < 2 ^ 47
 
-pub depth-holds : (code : ℕ) → Holds Listed (λ d. d ≤ 24) (bitDepth code)
+pub depth-holds : (code : ℕ) → Holds Early (λ d. d ≤ 24) (bitDepth code)
 unfolding bitDepth
 depth-holds code =
     holds-if (eqb code 0) (λ _. value {a = 0} (omega arith))
@@ -67,7 +87,7 @@ depth-holds code =
     (λ _. holds-if (eqb code 5) (λ _. value {a = 20} (omega arith))
     (λ _. holds-if (eqb code 6) (λ _. value {a = 24} (omega arith)) (λ _. refusal (omega arith))))))))
 
-size-holds : (code : ℕ) → code < 16 → Holds Listed (λ n. (1 ≤ n) × (n ≤ 65535)) (blockSize code)
+size-holds : (code : ℕ) → code < 16 → Holds Early (λ n. (1 ≤ n) × (n ≤ 65535)) (blockSize code)
 unfolding blockSize
 size-holds code h =
     holds-if (eqb code 1) (λ _. value {a = 192} (omega arith))
@@ -96,25 +116,25 @@ first-below blocking n h t l s k e = go (eqb blocking 0) refl
         rw (t, f) (lt-of-le-of-lt (mul-le-mul {n₂ = 65535} {m₂ = 2147483647} s few) (omega arith))
     go false f = rw (t, f) (omega arith)
 
-sync-holds : Holds Listed (λ b. b < 2) sync
+sync-holds : Holds Early (λ b. b < 2) sync
 unfolding sync
 sync-holds = holds-bind _ (holds-bits 16) (λ v _. holds-bind _ (holds-require _ 3 (omega arith)) (λ _ _. value {a = v % 2} (omega arith)))
 
-third-holds : Holds Listed (λ c. c .0 < 16) sizeAndRate
+third-holds : Holds Early (λ c. c .0 < 16) sizeAndRate
 unfolding sizeAndRate
 third-holds =
     holds-bind _ (holds-bits 4)
     (λ size small. holds-bind _ (holds-require _ 4 (omega arith))
     (λ _ _. holds-bind _ (holds-bits 4) (λ rate _. holds-bind _ (holds-require _ 4 (omega arith)) (λ _ _. value small))))
 
-pub zero-holds : Holds Listed (λ d. d ≤ 24) depthAndZero
+pub zero-holds : Holds Early (λ d. d ≤ 24) depthAndZero
 unfolding depthAndZero
 zero-holds =
     holds-bind _ (holds-bits 3)
     (λ code _. holds-bind _ (depth-holds code)
     (λ n deep. holds-bind _ (holds-bits 1) (λ reserved _. holds-bind _ (holds-require _ 4 (omega arith)) (λ _ _. value {a = n} deep))))
 
-fourth-holds : Holds Listed (λ c. (1 ≤ channelCount (c .0)) × (channelCount (c .0) ≤ 8) × (c .1 ≤ 24)) channelsAndBits
+fourth-holds : Holds Early (λ c. (1 ≤ channelCount (c .0)) × (channelCount (c .0) ≤ 8) × (c .1 ≤ 24)) channelsAndBits
 unfolding channelsAndBits
 fourth-holds =
     holds-bind _ (holds-bits 4)
@@ -129,7 +149,7 @@ pub record Coded (c : Codes) : Type 0 where
   pub channels : channelCount (c .channels) ≤ 8
   pub bits : c .bits ≤ 24
 
-pub codes-holds : Holds Listed Coded codes
+pub codes-holds : Holds Early Coded codes
 unfolding codes
 codes-holds =
     holds-bind _ sync-holds
@@ -141,19 +161,19 @@ codes-holds =
 Timely : BlockTime → Type 0
 Timely time = (h : FrameHeader) → h .time ≡ time → h .size ≤ 65535 → firstSample h < 2 ^ 47
 
-time-holds : (blocking : ℕ) → blocking < 2 → Holds Listed Timely (blockTime blocking)
+time-holds : (blocking : ℕ) → blocking < 2 → Holds Early Timely (blockTime blocking)
 unfolding blockTime Timely
 time-holds blocking l =
     holds-bind _ number-holds
     (λ number below. holds-bind _ (holds-require (eqb blocking 1 || leb number 2147483647) 5 (omega arith))
     (λ _ limit. value (λ h t s. first-below blocking number h t l s below limit)))
 
-sum-holds : Holds Listed (λ _. Unit {0}) headerSum
+sum-holds : Holds Early (λ _. Unit {0}) headerSum
 unfolding headerSum
 sum-holds =
     holds-bind _ holds-passed (λ before _. holds-bind _ (holds-bits 8) (λ sum _. holds-weaken (λ _ _. tt) (holds-require _ 6 (omega arith))))
 
-pub header-holds : Holds Listed Sound header
+pub header-holds : Holds Early Sound header
 unfolding header headerBehind Timely
 header-holds =
     holds-bind _ codes-holds

@@ -10,7 +10,7 @@ use lib.IntN.{ℤ, _+ℤ_, _-ℤ_}
 use lib.ListN.{length, take, drop, replicate, length-append, length-map, length-replicate, length-take, length-drop}
 use lib.Pow.{suc-ones}
 use Rattle.reading.specs.Reading.{Ask, bits, many}
-use Rattle.reading.proofs.Holding.{Holds, value, refusal, holds-bind, holds-weaken, holds-bits, holds-zeros, holds-passed, holds-require, holds-if, Every, every-append, every-take, every-drop, Sized, total, holds-many, holds-each}
+use Rattle.reading.proofs.Holding.{Holds, value, refusal, holds-bind, holds-weaken, holds-refused, holds-bits, holds-zeros, holds-passed, holds-require, holds-if, Every, every-append, every-take, every-drop, Sized, total, holds-many, holds-each}
 use Rattle.rfc9639.specs.declared.ChannelAssignment.{ChannelAssignment}
 use Rattle.rfc9639.specs.declared.ChannelAssignment.the-variants.{Independent, LeftSide, SideRight, MidSide}
 use Rattle.rfc9639.specs.declared.SubframeType.{SubframeType}
@@ -25,7 +25,7 @@ use Rattle.rfc9639.specs.Stereo.{rightOf, leftOf, doubled, leftOfMid, rightOfMi
 use Rattle.rfc9639.specs.Frame.{Settings, opening, widths, footer, body, Frame, frame}
 use Rattle.rfc9639.specs.Read.{begun}
 use Rattle.rfc9639.proofs.Widths.{Fits, wrapped-fits, shiftDown-fits, shiftUp-fits}
-use Rattle.demands.proofs.Frames.{Listed, Sound, header-holds}
+use Rattle.demands.proofs.Frames.{Listed, Early, Late, forbidden, not-done, bad-shape, frame-sum, early-listed, late-listed, Sound, header-holds}
 
 -- a number of 32 bits
 abbrev pub Sample : ℤ → Type 0
@@ -41,20 +41,20 @@ Count n xs = length xs ≡ n
 
 -- ---- the residual
 
-sample-holds : (w : ℕ) → Holds Listed Some (sample w)
+sample-holds : (w : ℕ) → Holds Late Some (sample w)
 unfolding sample
 sample-holds w = holds-bind _ (holds-bits w) (λ v _. value tt)
 
-counted : {A : Type 0} (n : ℕ) {p : Ask A} → Holds Listed Some p → Holds Listed (Count n) (many n p)
+counted : {A : Type 0} (n : ℕ) {p : Ask A} → Holds Late Some p → Holds Late (Count n) (many n p)
 counted n h = holds-weaken (λ xs s. s .count) (holds-many n h)
 
-rice-holds : (k : ℕ) → Holds Listed Some (rice k)
+rice-holds : (k : ℕ) → Holds Late Some (rice k)
 unfolding rice
 rice-holds k = holds-bind _ holds-zeros (λ q _. holds-bind _ (holds-bits k) (λ r _. value tt))
 
-partition-holds : (method n : ℕ) → Holds Listed (Sized n Some) (partition method n)
+partition-holds : (method n : ℕ) → Holds Late (Sized n Some) (partition method n)
 unfolding partition coded
-partition-holds method n = holds-bind _ (holds-bits (4 + method)) (λ k _. holds-if (eqb k (2 ^ (4 + method) - 1)) (λ _. refusal (omega arith)) (λ _. holds-many n (rice-holds k)))
+partition-holds method n = holds-bind _ (holds-bits (4 + method)) (λ k _. holds-if (eqb k (2 ^ (4 + method) - 1)) (λ _. refusal not-done) (λ _. holds-many n (rice-holds k)))
 
 every-of : {A : Type 0} {P : A → Type 0} → ((a : A) → P a) → (xs : List A) → Every P xs
 every-of h [] = tt
@@ -75,14 +75,14 @@ sizes order n warm e h =
     ∙ (let d = div-add-mod' n (2 ^ order) in omega arith) in
     omega (arith, total-replicate (2 ^ order - 1) size)
 
-residual-holds : (warm n : ℕ) → Holds Listed (Count (n - warm)) (residual warm n)
+residual-holds : (warm n : ℕ) → Holds Late (Count (n - warm)) (residual warm n)
 unfolding residual
 residual-holds warm n =
     holds-bind _ (holds-bits 2)
-    (λ method _. holds-bind _ (holds-require _ 4 (omega arith))
+    (λ method _. holds-bind _ (holds-require _ 4 forbidden)
     (λ _ _. holds-bind _ (holds-bits 4)
-    (λ order _. holds-bind _ (holds-require (eqb (n % 2 ^ order) 0) 9 (omega arith))
-    (λ _ e. holds-bind _ (holds-require (leb warm (n / 2 ^ order)) 9 (omega arith))
+    (λ order _. holds-bind _ (holds-require (eqb (n % 2 ^ order) 0) 9 bad-shape)
+    (λ _ e. holds-bind _ (holds-require (leb warm (n / 2 ^ order)) 9 bad-shape)
     (λ _ h. holds-weaken (λ xs s. s .count ∙ sizes order n warm (eqb-true (n % 2 ^ order) 0 e) (leb-true warm (n / 2 ^ order) h))
     (holds-each {P = Some} (partition method) (λ x. x) (partitionSizes order (n / 2 ^ order) warm) (every-of (partition-holds method) (partitionSizes order (n / 2 ^ order) warm))))))))
 
@@ -98,20 +98,20 @@ unfolding predict
 predict-length cs k order n warm rs e f h =
     length-append warm (restored cs k (reverse warm) rs) ∙ ap₂ (λ (a b : ℕ). a + b) e (restored-length cs k (reverse warm) rs ∙ f) ∙ omega arith
 
-fixed-holds : (order w n : ℕ) → order ≤ n → Holds Listed (Count n) (fixed order w n)
+fixed-holds : (order w n : ℕ) → order ≤ n → Holds Late (Count n) (fixed order w n)
 unfolding fixed
 fixed-holds order w n h =
     holds-bind _ (counted order (sample-holds w))
     (λ warm e. holds-bind _ (residual-holds order n) (λ rs f. value (predict-length _ 0 order n warm rs e f h)))
 
-quantization-holds : Holds Listed Some quantization
+quantization-holds : Holds Late Some quantization
 unfolding quantization
 quantization-holds =
     holds-bind _ (holds-bits 4)
-    (λ precision _. holds-bind _ (holds-require _ 4 (omega arith))
-    (λ _ _. holds-bind _ (holds-bits 5) (λ shift _. holds-bind _ (holds-require _ 8 (omega arith)) (λ _ _. value tt))))
+    (λ precision _. holds-bind _ (holds-require _ 4 forbidden)
+    (λ _ _. holds-bind _ (holds-bits 5) (λ shift _. holds-bind _ (holds-require _ 8 not-done) (λ _ _. value tt))))
 
-lpc-holds : (order w n : ℕ) → order ≤ n → Holds Listed (Count n) (lpc order w n)
+lpc-holds : (order w n : ℕ) → order ≤ n → Holds Late (Count n) (lpc order w n)
 unfolding lpc lpcBehind
 lpc-holds order w n h =
     holds-bind _ (counted order (sample-holds w))
@@ -119,34 +119,34 @@ lpc-holds order w n h =
     (λ q _. holds-bind _ (counted order (sample-holds (q .0)))
     (λ cs _. holds-bind _ (residual-holds order n) (λ rs f. value (predict-length cs (q .1) order n warm rs e f h)))))
 
-samples-holds : (kind : SubframeType) (w n : ℕ) → orderOf kind ≤ n → Holds Listed (Count n) (samples kind w n)
+samples-holds : (kind : SubframeType) (w n : ℕ) → orderOf kind ≤ n → Holds Late (Count n) (samples kind w n)
 unfolding samples orderOf
 samples-holds Constant w n h = holds-bind _ (sample-holds w) (λ x _. value (length-replicate n x))
 samples-holds Verbatim w n h = counted n (sample-holds w)
 samples-holds (Fixed k) w n h = fixed-holds k w n h
 samples-holds (Lpc k) w n h = lpc-holds k w n h
 
-type-holds : (code : ℕ) → Holds Listed Some (subframeType code)
+type-holds : (code : ℕ) → Holds Late Some (subframeType code)
 unfolding subframeType
 type-holds code =
     holds-if (eqb code 0) (λ _. value tt)
     (λ _. holds-if (eqb code 1) (λ _. value tt)
-    (λ _. holds-if (ltb code 8) (λ _. refusal (omega arith))
+    (λ _. holds-if (ltb code 8) (λ _. refusal forbidden)
     (λ _. holds-if (leb code 12) (λ _. value tt)
-    (λ _. holds-if (ltb code 32) (λ _. refusal (omega arith)) (λ _. value tt)))))
+    (λ _. holds-if (ltb code 32) (λ _. refusal forbidden) (λ _. value tt)))))
 
-wasted-holds : Holds Listed Some wastedBits
+wasted-holds : Holds Late Some wastedBits
 unfolding wastedBits
 wasted-holds = holds-bind _ (holds-bits 1) (λ flag _. holds-if (eqb flag 0) (λ _. value tt) (λ _. holds-bind _ holds-zeros (λ z _. value tt)))
 
-subframe-header-holds : (width : ℕ) → Holds Listed Some (subframeHeader width)
+subframe-header-holds : (width : ℕ) → Holds Late Some (subframeHeader width)
 unfolding subframeHeader kindAndWasted wastedJudged
 subframe-header-holds width =
     holds-bind _ (holds-bits 1)
-    (λ reserved _. holds-bind _ (holds-require _ 4 (omega arith))
+    (λ reserved _. holds-bind _ (holds-require _ 4 forbidden)
     (λ _ _. holds-bind _ (holds-bits 6)
     (λ code _. holds-bind _ (type-holds code)
-    (λ kind _. holds-bind _ (holds-bind {P = Some} _ wasted-holds (λ wasted _. holds-bind _ (holds-require _ 9 (omega arith)) (λ _ _. value tt)))
+    (λ kind _. holds-bind _ (holds-bind {P = Some} _ wasted-holds (λ wasted _. holds-bind _ (holds-require _ 9 bad-shape) (λ _ _. value tt)))
     (λ wasted _. value tt)))))
 
 -- every sample went through 32 bits
@@ -157,11 +157,11 @@ shifted k n xs e = record { count = length-map xs (shiftUp k) ∙ e; every = go 
     go [] = tt
     go (y ∷ ys) = (shiftUp-fits k y, go ys)
 
-pub subframe-holds : (n width : ℕ) → Holds Listed (Sized n Sample) (subframe n width)
+pub subframe-holds : (n width : ℕ) → Holds Late (Sized n Sample) (subframe n width)
 unfolding subframe subframeBehind
 subframe-holds n width =
     holds-bind _ (subframe-header-holds width)
-    (λ h _. holds-bind _ (holds-require (leb (orderOf (h .kind)) n) 9 (omega arith))
+    (λ h _. holds-bind _ (holds-require (leb (orderOf (h .kind)) n) 9 bad-shape)
     (λ _ e. holds-bind _ (samples-holds (h .kind) (width - h .wasted) n (leb-true (orderOf (h .kind)) n e)) (λ xs f. value (shifted (h .wasted) n xs f))))
 
 -- ---- the channels
@@ -225,15 +225,15 @@ joined-sized c n xs h = go c h
 
 -- ---- the frame
 
-footer-holds : Holds Listed Some footer
+footer-holds : Holds Late Some footer
 unfolding footer
 footer-holds =
     holds-bind _ holds-passed
     (λ coded _. holds-bind _ (holds-bits _)
     (λ pad _. holds-bind _ holds-passed
-    (λ before _. holds-bind _ (holds-bits 16) (λ sum _. holds-weaken (λ _ _. tt) (holds-require _ 10 (omega arith))))))
+    (λ before _. holds-bind _ (holds-bits 16) (λ sum _. holds-weaken (λ _ _. tt) (holds-require _ 10 frame-sum)))))
 
-pub body-holds : (h : FrameHeader) → Holds Listed (Sized (sampleCount h) Sample) (body h)
+pub body-holds : (h : FrameHeader) → Holds Late (Sized (sampleCount h) Sample) (body h)
 unfolding body sampleCount
 body-holds h =
     holds-bind _ (holds-each (subframe (h .size)) (λ w. h .size) (widths (h .channels) (h .bits)) (every-of (subframe-holds (h .size)) (widths (h .channels) (h .bits))))
@@ -247,7 +247,7 @@ pub record Open (set : Settings) (h : FrameHeader) : Type 0 where
   pub depth : 1 ≤ h .bits
   pub room : sampleCount h ≤ set .room
 
-pub opening-holds : (set : Settings) → Holds Listed (Open set) (opening set)
+pub opening-holds : (set : Settings) → Holds Early (Open set) (opening set)
 unfolding opening
 opening-holds set =
     holds-bind _ header-holds
@@ -261,8 +261,10 @@ pub record Whole (set : Settings) (f : Frame) : Type 0 where
 
 pub frame-holds : (set : Settings) → Holds Listed (Whole set) (frame set)
 unfolding frame
-frame-holds set = holds-bind _ (opening-holds set) (λ h o. holds-bind _ (body-holds h) (λ xs s. value (record { header = o; samples = s })))
+frame-holds set =
+    holds-bind _ (holds-refused early-listed (opening-holds set))
+    (λ h o. holds-bind _ (holds-refused late-listed (body-holds h)) (λ xs s. value (record { header = o; samples = s })))
 
-pub begun-holds : (set : Settings) → Holds Listed (Open set) (begun set)
+pub begun-holds : (set : Settings) → Holds Early (Open set) (begun set)
 unfolding begun
 begun-holds set = holds-bind _ (opening-holds set) (λ h o. holds-bind _ (holds-bits 1) (λ bit _. value o))

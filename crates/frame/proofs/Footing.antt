@@ -18,7 +18,7 @@ use Rattle.error.specs.Numbers.{refusedBy}
 use Rattle.rfc9639.specs.CheckSums.{crc16}
 use Rattle.rfc9639.specs.Frame.{padding, footer}
 use Rattle.frame.specs.declared.answers.Checked.{Checked}
-use Rattle.frame.specs.Answers.{checked}
+use Rattle.frame.specs.Private.{checked}
 
 -- the sum, which these bits have
 unfoldable summed : List ℕ → Ask (Unit {0})

@@ -1,14 +1,14 @@
 -- Any two outcomes that meet a contract are equal: the report tells the answer, and the buffer is the definition's.
 -- Assumes nothing.
 use native.Mathlib.Omega.{arith}
-use mathlib.Core.Path.{_≡_, ap, sym, _∙_}
-use mathlib.Core.List.{List}
-use lib.IntN.{ℤ}
+use mathlib.Core.Path.{_≡_, ap}
+use Rattle.reading.proofs.Outcome.{OneOutcome, one}
 use Rattle.error.proofs.Outcome.{number-tells, some-number}
-use Rattle.rfc9639.specs.Read.{Report, refusal, Outcome}
+use Rattle.rfc9639.specs.Read.{Report, refusal}
 use Rattle.frame.specs.declared.Accepted.{Accepted}
 use Rattle.frame.specs.declared.Answer.{Answer}
-use Rattle.frame.specs.Reads.{reportOf, Reads}
+use Rattle.frame.specs.Reads.{reportOf}
+use Rattle.frame.proofs.read_frame
 
 -- what a report says of a frame
 reported : Report → Accepted
@@ -21,5 +21,6 @@ report-tells (Answer.Frame f) (Answer.Refused x) e = absurd (omega (arith, some-
 report-tells (Answer.Refused x) (Answer.Frame f) e = absurd (omega (arith, some-number x, ap (λ y. y .number) e))
 report-tells (Answer.Refused x) (Answer.Refused y) e = ap Answer.Refused (number-tells x y (ap (λ z. z .number) e))
 
-pub read-frame-one : {o : Outcome} {r r′ : Answer} {left left′ : List ℤ} → Reads o r left → Reads o r′ left′ → (r ≡ r′) × (left ≡ left′)
-read-frame-one {r = r} {r′ = r′} p q = (report-tells r r′ (p .report ∙ sym (q .report)), p .samples ∙ sym (q .samples))
+pub read-frame-one : OneOutcome read_frame.ended read_frame.Reads.Learnt
+read-frame-one κs args r r′ left left′ p q =
+    (report-tells r r′ (one (p .report) (q .report)), ap (λ l. (tt, (l, tt))) (one (p .samples) (q .samples)))

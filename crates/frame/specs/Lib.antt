@@ -1,3 +1,3 @@
 -- What the frame reader and its parts answer, in the words of the definition.
-pub mod Answers
+pub mod Private
 pub mod Reads

@@ -25,7 +25,7 @@ use Rattle.rfc9639.specs.declared.FrameHeader.{FrameHeader}
 use Rattle.rfc9639.specs.CheckSums.{crc8}
 use Rattle.rfc9639.specs.Number.{codedNumber}
 use Rattle.rfc9639.specs.Header.{blockSize, rateBits, timeOf, codes, blockTime, headerSum, header}
-use Rattle.demands.proofs.Frames.{Listed, Coded, codes-holds, Sound, header-holds}
+use Rattle.demands.proofs.Frames.{Early, Coded, codes-holds, Sound, header-holds}
 use Rattle.header.specs.declared.HeaderRead.{HeaderRead}
 use Rattle.header.specs.Answers.{headed}
 use Rattle.header.proofs.Stepping.{check-passes, check-stops, check-fails, check-done}
@@ -115,7 +115,7 @@ module _ (s : List ℕ) (at : Place) (h : In s at) (f : at .bit ≡ 0) where
 
 module _ (s : List ℕ) {c : Codes} {p : Place} (e : runAt codes s (placeOf 0) ≡ gotAt c p) where
   pub codes-coded : Coded c
-  codes-coded = subst (Meets Listed Coded) e (holds-at Listed Coded s (placeOf 0) codes-holds)
+  codes-coded = subst (Meets Early Coded) e (holds-at Early Coded s (placeOf 0) codes-holds)
 
   pub codes-byte : p .bit ≡ 0
   codes-byte = moves-at s codes (placeOf 0) codes-whole refl e
@@ -137,4 +137,4 @@ module _ (s : List ℕ) {r : HeaderRead} (e : headed r ≡ runAt header s (place
     header-inside = in-inside s p header-in
 
     pub header-sound : Sound h
-    header-sound = subst (Meets Listed Sound) header-got (holds-at Listed Sound s (placeOf 0) header-holds)
+    header-sound = subst (Meets Early Sound) header-got (holds-at Early Sound s (placeOf 0) header-holds)

@@ -12,7 +12,7 @@ use Rattle.reading.proofs.Running.{In, stays-in, runAt-done, runAt-stop, bind-g
 use Rattle.reading.proofs.Holding.{Holds, Meets, holds-at}
 use Rattle.error.specs.declared.Refusal.{Refusal}
 use Rattle.error.specs.Numbers.{numberOf, refusedBy}
-use Rattle.demands.proofs.Frames.{Listed}
+use Rattle.demands.proofs.Frames.{Early}
 
 -- An answer that is a refusal says why the reader stopped; the function that asked for the refusal has the same.
 pub passed-on : {R A : Type 0} (means : R → At A) (why : R → Refusal) {r r′ : R} {x : At A} {k : Refusal}
@@ -51,8 +51,8 @@ module _ {A B : Type 0} (t : Ask A) (k : A → Ask B) (s : List ℕ) (at : Place
   unfolding _>>=_
   known-done {a} e = ap (λ x. runAt (x >>= k) s at) (sym e)
 
-  pub known-stops : {P : A → Type 0} (x : Refusal) → Holds Listed P t → In s at → stop (numberOf x) ≡ t → runAt (t >>= k) s at ≡ refusedBy x
+  pub known-stops : {P : A → Type 0} (x : Refusal) → Holds Early P t → In s at → stop (numberOf x) ≡ t → runAt (t >>= k) s at ≡ refusedBy x
   known-stops {P} x h i e =
       let f : runAt t s at ≡ refusedAt (numberOf x) = ap (λ y. runAt y s at) (sym e) ∙ runAt-stop (numberOf x) i in
-      let l : Listed (numberOf x) = subst (Meets Listed P) f (holds-at Listed P s at h) in
+      let l : Early (numberOf x) = subst (Meets Early P) f (holds-at Early P s at h) in
       bind-refused t s at k f ∙ sym (rw (ne-eqb (numberOf x) 2 (omega arith)))

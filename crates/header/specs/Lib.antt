@@ -1,2 +1,3 @@
 -- What the header's functions answer, in the words of the definition.
 pub mod Answers
+pub mod Private

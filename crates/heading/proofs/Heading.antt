@@ -17,7 +17,8 @@ use Rattle.output.specs.declared.Pen.{Pen}
 use Rattle.output.specs.Ink.{State, inked, fresh}
 use Rattle.output.proofs.Inking.{inked-length, inked-whole, inked-before}
 use Rattle.output.proofs.Chaining.{first, inked-then}
-use Rattle.heading.specs.Heads.{headed, threeBits}
+use Rattle.heading.specs.Heads.{headed}
+use Rattle.heading.specs.Private.{threeBits}
 
 -- the first three bytes are bits
 pub three-binary : (set : FrameSetting) → Binary (threeBits set)

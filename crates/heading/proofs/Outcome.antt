@@ -1,19 +1,12 @@
 -- Any two outcomes that meet a public function's contract are equal. Assumes nothing.
-use Prim.Native.Nat.{ℕ, _/_}
-use mathlib.Core.Path.{_≡_}
-use mathlib.Core.List.{List}
-use lib.ListN.{length}
-use Rattle.reading.proofs.Outcome.{one}
-use Rattle.rfc9639.specs.declared.FrameSetting.{FrameSetting}
-use Rattle.rfc9639.specs.Write.{headerBits}
-use Rattle.output.specs.declared.Pen.{Pen}
-use Rattle.output.specs.Ink.{State}
+use mathlib.Core.Path.{refl, ap}
+use Rattle.reading.proofs.Outcome.{OneOutcome, one}
 use Rattle.output.proofs.Outcome.{state-one}
-use Rattle.heading.specs.Heads.{headed}
+use Rattle.heading.proofs.header_length
+use Rattle.heading.proofs.write_header
 
-pub header-length-one : (set : FrameSetting) (r r′ : ℕ) → r ≡ length (headerBits set) / 8 → r′ ≡ length (headerBits set) / 8 → r ≡ r′
-header-length-one set r r′ = one
+pub header-length-one : OneOutcome header_length.ended header_length.Reads.Learnt
+header-length-one κs args r r′ left left′ p q = (one p q, refl)
 
-pub write-header-one : (set : FrameSetting) (out : List ℕ) {p p′ : Pen} {s s′ : List ℕ} → _≡_ {A = State} (record { pen = p; bytes = s }) (headed set out)
-    → _≡_ {A = State} (record { pen = p′; bytes = s′ }) (headed set out) → (p ≡ p′) × (s ≡ s′)
-write-header-one set out = state-one
+pub write-header-one : OneOutcome write_header.ended write_header.Reads.Learnt
+write-header-one κs args r r′ left left′ p q = let (pens, bytes) = state-one p q in (pens, ap (λ l. (tt, (l, tt))) bytes)

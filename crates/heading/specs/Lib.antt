@@ -1,2 +1,3 @@
 -- What writing a header comes to.
 pub mod Heads
+pub mod Private

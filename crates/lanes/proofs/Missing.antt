@@ -12,7 +12,7 @@ use Rattle.rfc9639.specs.Integers.{shiftDown}
 use Rattle.rfc9639.specs.Prediction.{dot, fixedCoefficients}
 use Rattle.rfc9639.specs.Coding.{fold, residuals, fixedResiduals}
 use Rattle.rfc9639.proofs.Lengths.{length-fixedResiduals}
-use Rattle.lanes.specs.Predicted.{predictedAt}
+use Rattle.lanes.specs.Private.{predictedAt}
 
 -- ---- the residuals of a row of coefficients
 

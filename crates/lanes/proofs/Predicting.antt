@@ -14,7 +14,7 @@ use mir.Facts.{toZ-ofZ}
 use Rattle.rfc9639.specs.Prediction.{dot, fixedCoefficients}
 use Rattle.signed.proofs.Signs.{bits64}
 use Rattle.number.proofs.Sizes.{sfits-of-abs, abs-add, abs-mul, abs-neg}
-use Rattle.lanes.specs.Predicted.{predictedAt}
+use Rattle.lanes.specs.Private.{predictedAt}
 use Rattle.lanes.proofs.Missing.{latest}
 
 -- ---- one product more

@@ -1,2 +1,2 @@
 -- What the private functions of this crate answer.
-pub mod Predicted
+pub mod Private

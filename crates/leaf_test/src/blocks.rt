@@ -1,5 +1,5 @@
 // The functions of `block` on claxon's test data, and each of their refusals. A line has the block as channels x size,
-// a channel and an index; then what all four answer: the channel's part, its samples, the sample and the pair.
+// a channel and an index; then what all three answer: the channel's range and the samples there, the sample and the pair.
 use crate::show::equals;
 use crate::show::mark;
 use crate::show::put;
@@ -8,13 +8,31 @@ use crate::show::text;
 use crate::show::value32;
 use crate::show::values32;
 use block::Block;
+use block::ChannelAt;
 use block::PairAt;
-use block::Part;
 use block::SampleAt;
 use block::channel;
-use block::channel_part;
 use block::pair;
 use block::sample;
+
+// The slice is taken with no test of its own: that the range lies in the samples is known by `channel`'s promise.
+fn channel_at(s: &[i32], b: Block, c: usize) {
+    let r = channel(s, b, c);
+    match r {
+        ChannelAt::Range(start, end) => {
+            let there = &s[start..end];
+            put(b' ', start as u64);
+            mark(b'.');
+            put(b'.', end as u64);
+            mark(b',');
+            values32(there);
+        }
+        ChannelAt::Refused(e) => {
+            refused(e);
+            mark(b',');
+        }
+    }
+}
 
 fn at(s: &[i32], channels: usize, size: usize, c: usize, i: usize) {
     text(b"block");
@@ -24,17 +42,7 @@ fn at(s: &[i32], channels: usize, size: usize, c: usize, i: usize) {
     put(b' ', i as u64);
     equals();
     let b = Block { channels, size };
-    let r = channel_part(s, b, c);
-    match r {
-        Part::Range(start, end) => {
-            put(b' ', start as u64);
-            mark(b'.');
-            put(b'.', end as u64);
-        }
-        Part::Refused(e) => refused(e),
-    }
-    mark(b',');
-    values32(channel(s, b, c));
+    channel_at(s, b, c);
     mark(b',');
     let r = sample(s, b, c, i);
     match r {

@@ -1,24 +1,27 @@
 -- Any two outcomes that meet a public function's contract are equal. Assumes nothing.
-use Prim.Native.Nat.{ℕ, min}
-use mathlib.Core.Path.{_≡_}
-use lib.IntN.{ℤ, _+ℤ_, _-ℤ_}
-use Rattle.reading.proofs.Outcome.{one}
-use Rattle.rfc9639.specs.Integers.{wrapped, shiftDown, shiftUp}
+use mathlib.Core.Path.{refl}
+use Rattle.reading.proofs.Outcome.{OneOutcome, one}
+use Rattle.number.proofs.low32
+use Rattle.number.proofs.wrapping_add
+use Rattle.number.proofs.wrapping_sub
+use Rattle.number.proofs.shift_up
+use Rattle.number.proofs.shift_down
+use Rattle.number.proofs.lesser
 
-pub low32-one : {r r′ : ℤ} (x : ℤ) → r ≡ wrapped 32 x → r′ ≡ wrapped 32 x → r ≡ r′
-low32-one x = one
+pub low32-one : OneOutcome low32.ended low32.Reads.Learnt
+low32-one κs args r r′ left left′ p q = (one p q, refl)
 
-pub wrapping-add-one : {r r′ : ℤ} (a b : ℤ) → r ≡ wrapped 32 (a +ℤ b) → r′ ≡ wrapped 32 (a +ℤ b) → r ≡ r′
-wrapping-add-one a b = one
+pub wrapping-add-one : OneOutcome wrapping_add.ended wrapping_add.Reads.Learnt
+wrapping-add-one κs args r r′ left left′ p q = (one p q, refl)
 
-pub wrapping-sub-one : {r r′ : ℤ} (a b : ℤ) → r ≡ wrapped 32 (a -ℤ b) → r′ ≡ wrapped 32 (a -ℤ b) → r ≡ r′
-wrapping-sub-one a b = one
+pub wrapping-sub-one : OneOutcome wrapping_sub.ended wrapping_sub.Reads.Learnt
+wrapping-sub-one κs args r r′ left left′ p q = (one p q, refl)
 
-pub shift-up-one : {r r′ : ℤ} (x : ℤ) (k : ℕ) → r ≡ shiftUp k x → r′ ≡ shiftUp k x → r ≡ r′
-shift-up-one x k = one
+pub shift-up-one : OneOutcome shift_up.ended shift_up.Reads.Learnt
+shift-up-one κs args r r′ left left′ p q = (one p q, refl)
 
-pub shift-down-one : {r r′ : ℤ} (x : ℤ) (k : ℕ) → r ≡ shiftDown k x → r′ ≡ shiftDown k x → r ≡ r′
-shift-down-one x k = one
+pub shift-down-one : OneOutcome shift_down.ended shift_down.Reads.Learnt
+shift-down-one κs args r r′ left left′ p q = (one p q, refl)
 
-pub lesser-one : {r r′ : ℕ} (a b : ℕ) → r ≡ min a b → r′ ≡ min a b → r ≡ r′
-lesser-one a b = one
+pub lesser-one : OneOutcome lesser.ended lesser.Reads.Learnt
+lesser-one κs args r r′ left left′ p q = (one p q, refl)

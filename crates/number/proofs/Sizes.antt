@@ -15,7 +15,7 @@ use mir.Facts.{toZ-ofZ}
 use Rattle.rfc9639.specs.Prediction.{dot}
 use Rattle.rfc9639.proofs.Widths.{Fits, of-sfits, to-sfits, fits-mono}
 pub use Rattle.rfc9639.proofs.Magnitudes.{fits-of-abs, abs-of-fits, abs-add, abs-neg, abs-mul, abs-shiftDown}
-use Rattle.number.specs.Small.{Small}
+use Rattle.number.specs.Private.{Small}
 
 -- ---- a number's size
 

@@ -1,2 +1,2 @@
 -- What callers ask of their numbers where rfc9639 has no word for it.
-pub mod Small
+pub mod Private

@@ -1,21 +1,21 @@
 -- The contracts settle the outcome: any two pens, with the bytes that they left, that meet one are equal.
 -- Assumes nothing.
 use Prim.Native.Nat.{ℕ}
-use mathlib.Core.Path.{_≡_, ap, sym, _∙_}
+use mathlib.Core.Path.{_≡_, ap}
 use mathlib.Core.List.{List}
-use Rattle.reading.specs.Spelling.{bitsOf, unary}
+use Rattle.reading.proofs.Outcome.{OneOutcome, one}
 use Rattle.output.specs.declared.Pen.{Pen}
-use Rattle.output.specs.Ink.{State, inked}
+use Rattle.output.specs.Ink.{State}
+use Rattle.output.proofs.write_bits
+use Rattle.output.proofs.write_unary
 
-module _ {p p′ : Pen} {s s′ : List ℕ} where
-  -- for callers that write, too
-  pub state-one : {x : State} → _≡_ {A = State} (record { pen = p; bytes = s }) x → _≡_ {A = State} (record { pen = p′; bytes = s′ }) x → (p ≡ p′) × (s ≡ s′)
-  state-one e f = (ap (λ y. y .pen) (e ∙ sym f), ap (λ y. y .bytes) (e ∙ sym f))
+-- for callers that write, too
+pub state-one : {p p′ : Pen} {s s′ : List ℕ} {x : State} → _≡_ {A = State} (record { pen = p; bytes = s }) x
+    → _≡_ {A = State} (record { pen = p′; bytes = s′ }) x → (p ≡ p′) × (s ≡ s′)
+state-one e f = (ap (λ y. y .pen) (one e f), ap (λ y. y .bytes) (one e f))
 
-  pub write-bits-one : (n v : ℕ) (pen : Pen) (out : List ℕ) → _≡_ {A = State} (record { pen = p; bytes = s }) (inked (bitsOf n v) pen out)
-      → _≡_ {A = State} (record { pen = p′; bytes = s′ }) (inked (bitsOf n v) pen out) → (p ≡ p′) × (s ≡ s′)
-  write-bits-one n v pen out = state-one
+pub write-bits-one : OneOutcome write_bits.ended write_bits.Reads.Learnt
+write-bits-one κs args r r′ left left′ p q = let (pens, bytes) = state-one p q in (pens, ap (λ l. (l, (tt, (tt, (tt, tt))))) bytes)
 
-  pub write-unary-one : (q : ℕ) (pen : Pen) (out : List ℕ) → _≡_ {A = State} (record { pen = p; bytes = s }) (inked (unary q) pen out)
-      → _≡_ {A = State} (record { pen = p′; bytes = s′ }) (inked (unary q) pen out) → (p ≡ p′) × (s ≡ s′)
-  write-unary-one q pen out = state-one
+pub write-unary-one : OneOutcome write_unary.ended write_unary.Reads.Learnt
+write-unary-one κs args r r′ left left′ p q = let (pens, bytes) = state-one p q in (pens, ap (λ l. (l, (tt, (tt, tt)))) bytes)

@@ -37,6 +37,14 @@ holds-weaken f (any-bits h) = any-bits (λ v l. holds-weaken f (h v l))
 holds-weaken f (any-zeros h) = any-zeros (λ v. holds-weaken f (h v))
 holds-weaken f (any-seen h) = any-seen (λ l. holds-weaken f (h l))
 
+-- the same for the refusals
+pub holds-refused : {A : Type 0} {R S : ℕ → Type 0} {P : A → Type 0} {p : Ask A} → ((n : ℕ) → R n → S n) → Holds R P p → Holds S P p
+holds-refused f (value h) = value h
+holds-refused f (refusal {n = n} h) = refusal (f n h)
+holds-refused f (any-bits h) = any-bits (λ v l. holds-refused f (h v l))
+holds-refused f (any-zeros h) = any-zeros (λ v. holds-refused f (h v))
+holds-refused f (any-seen h) = any-seen (λ l. holds-refused f (h l))
+
 module _ {R : ℕ → Type 0} where
   pub holds-bits : (n : ℕ) → Holds R (λ v. v < 2 ^ n) (bits n)
   unfolding bits

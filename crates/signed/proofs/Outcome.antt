@@ -1,20 +1,19 @@
 -- Any two outcomes that meet a public function's contract are equal. Assumes nothing.
-use Prim.Native.Nat.{ℕ}
-use mathlib.Core.Path.{_≡_}
-use lib.IntN.{ℤ}
-use Rattle.reading.proofs.Outcome.{one}
-use Rattle.rfc9639.specs.Residual.{unfolded}
-use Rattle.rfc9639.specs.Coding.{fold}
-use Rattle.signed.specs.Extend.{signExtend, lowBits}
+use mathlib.Core.Path.{refl}
+use Rattle.reading.proofs.Outcome.{OneOutcome, one}
+use Rattle.signed.proofs.sign_extend
+use Rattle.signed.proofs.unfold
+use Rattle.signed.proofs.fold
+use Rattle.signed.proofs.low_bits
 
-pub sign-extend-one : {r r′ : ℤ} (v width : ℕ) → r ≡ signExtend width v → r′ ≡ signExtend width v → r ≡ r′
-sign-extend-one v width = one
+pub sign-extend-one : OneOutcome sign_extend.ended sign_extend.Reads.Learnt
+sign-extend-one κs args r r′ left left′ p q = (one p q, refl)
 
-pub unfold-one : {r r′ : ℤ} (n : ℕ) → r ≡ unfolded n → r′ ≡ unfolded n → r ≡ r′
-unfold-one n = one
+pub unfold-one : OneOutcome unfold.ended unfold.Reads.Learnt
+unfold-one κs args r r′ left left′ p q = (one p q, refl)
 
-pub fold-one : {n n′ : ℕ} (r : ℤ) → n ≡ fold r → n′ ≡ fold r → n ≡ n′
-fold-one r = one
+pub fold-one : OneOutcome fold.ended fold.Reads.Learnt
+fold-one κs args r r′ left left′ p q = (one p q, refl)
 
-pub low-bits-one : {r r′ : ℕ} (x : ℤ) (width : ℕ) → r ≡ lowBits width x → r′ ≡ lowBits width x → r ≡ r′
-low-bits-one x width = one
+pub low-bits-one : OneOutcome low_bits.ended low_bits.Reads.Learnt
+low-bits-one κs args r r′ left left′ p q = (one p q, refl)

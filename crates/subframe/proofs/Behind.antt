@@ -23,7 +23,7 @@ use Rattle.rfc9639.specs.Integers.{sample}
 use Rattle.rfc9639.specs.Subframe.{subframeType, wastedBits, wastedJudged, kindAndWasted, subframeHeader, lpc, subframe, subframeBehind, quantization, lpcBehind}
 use Rattle.subframe.specs.declared.answers.HeaderRead.{HeaderRead}
 use Rattle.subframe.specs.declared.answers.Quantizer.{Quantizer}
-use Rattle.subframe.specs.Parts.{headed, Orderly, Quantization, quantized}
+use Rattle.subframe.specs.Private.{headed, Orderly, Quantization, quantized}
 
 -- ---- a header and what is behind it
 

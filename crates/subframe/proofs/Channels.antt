@@ -18,7 +18,7 @@ use Rattle.reading.specs.Places.{At, gotAt, refusedAt, shortAt, runAt}
 use Rattle.reading.proofs.Running.{In, stays-in, runAt-done, bind-got, bind-short, require-holds, require-fails}
 use Rattle.reading.proofs.Holding.{Holds, value, Meets, Every, Sized, holds-at, holds-bind, holds-bits, holds-many}
 use Rattle.error.specs.declared.Refusal.{Refusal}
-use Rattle.number.specs.Small.{Small}
+use Rattle.number.specs.Private.{Small}
 use Rattle.rfc9639.specs.declared.SubframeHeader.{SubframeHeader}
 use Rattle.rfc9639.specs.declared.SubframeType.the-variants.{Constant}
 use Rattle.rfc9639.specs.Integers.{sample, shiftUp}
@@ -29,7 +29,8 @@ use Rattle.subframe.specs.declared.Decoded.{Decoded}
 use Rattle.subframe.specs.declared.Decoded.the-variants.{Done, Refused}
 use Rattle.subframe.specs.declared.answers.Sample.{Sample}
 use Rattle.subframe.specs.declared.answers.Sample.the-variants.{Value, Short}
-use Rattle.subframe.specs.Answers.{means, sampled, decodeAt, cleared, Left}
+use Rattle.subframe.specs.Answers.{means, decodeAt, cleared, Left}
+use Rattle.subframe.specs.Private.{sampled}
 use Rattle.subframe.proofs.Lending.{done-is, refused-is, passed-on}
 use Rattle.subframe.proofs.Behind.{Any}
 

@@ -18,7 +18,7 @@ use Rattle.reading.specs.Places.{gotAt, shortAt, runAt}
 use Rattle.reading.proofs.Running.{In, stays-in, behind, behind-nil, many-end, many-step, many-short}
 use Rattle.subframe.specs.declared.answers.Sample.{Sample}
 use Rattle.subframe.specs.declared.answers.Sample.the-variants.{Value, Short}
-use Rattle.subframe.specs.Answers.{sampled}
+use Rattle.subframe.specs.Private.{sampled}
 
 -- of l₀ the first i are filled, and l is what it holds now
 pub record Filling (p : Ask ℤ) (s : List ℕ) (at₀ : Place) (l₀ l : List ℤ) (i : ℕ) (at : Place) : Type 0 where

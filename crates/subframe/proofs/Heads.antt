@@ -19,7 +19,7 @@ use Rattle.error.specs.Numbers.{refusedBy}
 use Rattle.rfc9639.specs.declared.SubframeType.{SubframeType}
 use Rattle.rfc9639.specs.declared.SubframeHeader.{SubframeHeader}
 use Rattle.rfc9639.specs.Subframe.{subframeType, wastedBits, subframeHeader, wastedJudged, kindAndWasted, quantization}
-use Rattle.subframe.specs.Parts.{Quantization}
+use Rattle.subframe.specs.Private.{Quantization}
 
 -- ---- the wasted bits
 

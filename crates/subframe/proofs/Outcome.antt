@@ -1,22 +1,23 @@
 -- The contract settles the outcome: any two answers, with the samples that they left, that meet it are equal.
 -- Assumes nothing.
 use Prim.Native.Nat.{ℕ}
-use mathlib.Core.Path.{_≡_, ap, sym, _∙_}
+use mathlib.Core.Path.{_≡_, ap}
 use mathlib.Core.List.{List}
 use lib.IntN.{ℤ}
-use Rattle.reading.specs.declared.Place.{Place}
 use Rattle.reading.specs.Places.{At}
+use Rattle.reading.proofs.Outcome.{OneOutcome, one}
 use Rattle.error.proofs.Passing.{refused-one, got-not-refused}
 use Rattle.subframe.specs.declared.Decoded.{Decoded}
 use Rattle.subframe.specs.declared.Decoded.the-variants.{Done, Refused}
-use Rattle.subframe.specs.Answers.{decodeAt, Left}
+use Rattle.subframe.specs.Answers.{Left}
+use Rattle.subframe.proofs.decode
 
 left-one : (x : At (List ℤ)) (n : ℕ) (r r′ : Decoded) (l l′ : List ℤ) → Left x n r l → Left x n r′ l′ → (r ≡ r′) × (l ≡ l′)
-left-one x n (Done p) (Done p′) l l′ a b = let e = a .answer ∙ sym (b .answer) in let f : p ≡ p′ = cc in (ap Done f, cc)
-left-one x n (Done p) (Refused e′) l l′ a b = absurd (got-not-refused l p e′ (a .answer ∙ sym (b .answer)))
-left-one x n (Refused e) (Done p′) l l′ a b = absurd (got-not-refused l′ p′ e (b .answer ∙ sym (a .answer)))
-left-one x n (Refused e) (Refused e′) l l′ a b = (ap Refused (refused-one e e′ (a .answer ∙ sym (b .answer))), a .stopped ∙ sym (b .stopped))
+left-one x n (Done p) (Done p′) l l′ a b = let e = one (a .answer) (b .answer) in let f : p ≡ p′ = cc in (ap Done f, cc)
+left-one x n (Done p) (Refused e′) l l′ a b = absurd (got-not-refused l p e′ (one (a .answer) (b .answer)))
+left-one x n (Refused e) (Done p′) l l′ a b = absurd (got-not-refused l′ p′ e (one (b .answer) (a .answer)))
+left-one x n (Refused e) (Refused e′) l l′ a b = (ap Refused (refused-one e e′ (one (a .answer) (b .answer))), one (a .stopped) (b .stopped))
 
-pub decode-one : (width n : ℕ) (s : List ℕ) (at : Place) (r r′ : Decoded) (l l′ : List ℤ)
-    → Left (decodeAt width n s at) n r l → Left (decodeAt width n s at) n r′ l′ → (r ≡ r′) × (l ≡ l′)
-decode-one width n s at r r′ l l′ a b = left-one (decodeAt width n s at) n r r′ l l′ a b
+pub decode-one : OneOutcome decode.ended decode.Reads.Learnt
+decode-one κs args r r′ left left′ p q =
+    let (answers, samples) = left-one _ _ r r′ _ _ p q in (answers, ap (λ l. (tt, (tt, (tt, (l, tt))))) samples)

@@ -15,10 +15,10 @@ use lib.Seq.{length-take-le, take-add, getD-append-add, set-at, take-suc, take-a
 use mir.Syntax.{w32, w64}
 use mir.Val.{SFits, toZ, ofZ}
 use mir.Facts.{toZ-ofZ}
-use Rattle.number.specs.Small.{Small}
+use Rattle.number.specs.Private.{Small}
 use Rattle.number.proofs.Sizes.{Dotted, room, coefficient, step, sample-fits}
 use Rattle.rfc9639.specs.Prediction.{dot, fixedCoefficients}
-use Rattle.subframe.specs.Parts.{padded}
+use Rattle.subframe.specs.Private.{padded}
 
 -- ---- the latest sample first
 

@@ -7,21 +7,15 @@ use lib.IntN.{ℤ, pos}
 use lib.ListN.{replicate}
 use Rattle.reading.specs.declared.Place.{Place}
 use Rattle.reading.specs.Reading.{if_then_else_}
-use Rattle.reading.specs.Places.{At, gotAt, refusedAt, shortAt, runAt}
+use Rattle.reading.specs.Places.{At, gotAt, refusedAt, runAt}
 use Rattle.error.specs.Numbers.{refusedBy}
 use Rattle.rfc9639.specs.Subframe.{subframe}
 use Rattle.subframe.specs.declared.Decoded.{Decoded}
 use Rattle.subframe.specs.declared.Decoded.the-variants.{Done, Refused}
-use Rattle.subframe.specs.declared.answers.Sample.{Sample}
-use Rattle.subframe.specs.declared.answers.Sample.the-variants.{Value, Short}
 
 abbrev pub means : Decoded → List ℤ → At (List ℤ)
 means (Done p) left = gotAt left p
 means (Refused e) left = refusedBy e
-
-abbrev pub sampled : Sample → At ℤ
-sampled (Value x p) = gotAt x p
-sampled Short = shortAt
 
 -- a channel of n samples of a width that 32 bits hold; another width is a bad argument, 11
 unfoldable pub decodeAt : ℕ → ℕ → List ℕ → Place → At (List ℤ)

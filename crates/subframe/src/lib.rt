@@ -29,7 +29,7 @@ ghost use Rattle.reading.specs.Places.{runAt};
 ghost use Rattle.rfc9639.specs.Subframe.{fixed, lpc, samples, orderOf, lpcBehind, subframeBehind};
 ghost use Rattle.rfc9639.specs.Integers.{shiftUp};
 ghost use Rattle.subframe.specs.Answers.{means, Left, decodeAt};
-ghost use Rattle.subframe.specs.Parts.{Orderly};
+ghost use Rattle.subframe.specs.Private.{Orderly};
 
 // The place behind what was decoded, or why it stopped.
 pub enum Decoded {

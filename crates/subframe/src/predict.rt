@@ -7,8 +7,8 @@ ghost use lib.IntN.{pos, natAbs, _+ℤ_, _*ℤ_};
 ghost use lib.ListN.{length, take, drop};
 ghost use Rattle.rfc9639.specs.Prediction.{dot as dotOf, predict, fixedCoefficients};
 ghost use Rattle.rfc9639.specs.Integers.{wrapped, shiftDown};
-ghost use Rattle.number.specs.Small.{Small};
-ghost use Rattle.subframe.specs.Parts.{padded};
+ghost use Rattle.number.specs.Private.{Small};
+ghost use Rattle.subframe.specs.Private.{padded};
 
 fn mul_add(sum: i64, c: i32, x: i32) -> i64
     requires { ⌜ (natAbs sum < 2 ^ 62) × (natAbs c < 2 ^ 15) ⌝ }

@@ -13,7 +13,8 @@ ghost use Rattle.reading.specs.Reading.{many, each};
 ghost use Rattle.reading.specs.Places.{runAt};
 ghost use Rattle.rfc9639.specs.Integers.{sample};
 ghost use Rattle.rfc9639.specs.Residual.{folded as foldedOf, rice, partition, residual};
-ghost use Rattle.subframe.specs.Answers.{means, sampled};
+ghost use Rattle.subframe.specs.Answers.{means};
+ghost use Rattle.subframe.specs.Private.{sampled};
 
 pub fn read_sample(s: &[u8], at: Place, width: u32) -> Sample
     requires { ⌜ width ≤ 32 ⌝ }

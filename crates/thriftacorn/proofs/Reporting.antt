@@ -16,3 +16,7 @@ told {o} {r} {left} h q e = ap₂ (λ (x : Report) (y : List ℤ). record { repo
 
 pub written : {o : Written} {r : w.Answer} (left : List ℕ) → outcome r left ≡ o → (q : w.Answer) → r ≡ q → outcome q left ≡ o
 written left h q e = ap (λ (x : w.Answer). outcome x left) (sym e) ∙ h
+
+-- what is reported of the case that an answer was told to be
+pub by-case : {A B : Type 0} (report : A → B) {o r q : A} → r ≡ o → r ≡ q → report q ≡ report o
+by-case report h e = ap report (sym e ∙ h)

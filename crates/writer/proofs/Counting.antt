@@ -18,7 +18,7 @@ use Rattle.rfc9639.proofs.Listing.{width-within, map-counting-last}
 use Rattle.rfc9639.proofs.Bound.{lane-at-most}
 use Rattle.choice.specs.declared.Choice.{Choice}
 use Rattle.choice.specs.Choices.{choiceOf}
-use Rattle.writer.specs.Plans.{laneChoice}
+use Rattle.writer.specs.Private.{laneChoice}
 
 module _ (b n : ℕ) (xs : List ℤ) (a : ChannelAssignment) where
   -- the subframes before subframe c

@@ -16,7 +16,7 @@ use Rattle.rfc9639.proofs.Whole.{bits-padded}
 use Rattle.output.specs.declared.Pen.{Pen}
 use Rattle.output.specs.Ink.{State, ink, inked, fresh}
 use Rattle.output.proofs.Inking.{Good, ink-byte, inked-is, inked-length, inked-append, inked-before, inked-part}
-use Rattle.writer.specs.Footing.{filled, summed}
+use Rattle.writer.specs.Private.{filled, summed}
 
 -- where the pen stands once the byte begun is filled
 at : ℕ → Pen → List ℕ → ℕ

@@ -17,7 +17,7 @@ use Rattle.output.proofs.Inking.{Good, fresh-good, inked-good, inked-whole}
 use Rattle.output.proofs.Chaining.{first, inked-then}
 use Rattle.heading.specs.Heads.{headed}
 use Rattle.heading.proofs.Heading.{headed-is}
-use Rattle.writer.specs.Footing.{filled, summed}
+use Rattle.writer.specs.Private.{filled, summed}
 use Rattle.writer.proofs.Footed.{pen-within, footed-is}
 
 -- how long it is

@@ -23,7 +23,7 @@ use Rattle.output.specs.Ink.{State, inked}
 use Rattle.coding.specs.Ways.{writtenAs}
 use Rattle.coding.proofs.Pieces.{written-some}
 use Rattle.output.proofs.Rows.{Unwritten, step}
-use Rattle.writer.specs.Plans.{laneChoice}
+use Rattle.writer.specs.Private.{laneChoice}
 
 module _ (a : ChannelAssignment) where
   -- what stands at a place of the plan

@@ -1,5 +1,5 @@
 -- Laws for the writer.
-pub mod Allowing
+pub mod Fits
 pub mod Footed
 pub mod Planning
 pub mod Counting

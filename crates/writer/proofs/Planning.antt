@@ -15,7 +15,7 @@ use Rattle.rfc9639.specs.Write.{laneOf, lanes, laneWidth, stored}
 use Rattle.rfc9639.proofs.Listing.{map-counting-last}
 use Rattle.choice.specs.declared.Choice.{Choice}
 use Rattle.choice.specs.Choices.{choiceOf}
-use Rattle.writer.specs.Plans.{laneChoice}
+use Rattle.writer.specs.Private.{laneChoice}
 
 -- ---- the first c of `count` places hold what f gives for them
 

@@ -1,4 +1,3 @@
 -- What the writer and its parts answer, in the words of the definition.
-pub mod Footing
-pub mod Plans
+pub mod Private
 pub mod Outcomes

@@ -1,58 +1,45 @@
--- `channel` meets its contract: the range that `channel_part` told lies in the samples. Assumes nothing.
+-- `channel` meets its contract. Assumes nothing.
+use Prim.Native.Nat.{_+_, _*_, _≤_}
 use native.Mathlib.Omega.{arith}
+use mathlib.Core.Path.{_≡_, sym, _∙_}
+use mathlib.Core.Bool.{true}
+use borrow.Author.Tests.{not-true, not-false, leb-true}
 use borrow.Author.Needs.{needs}
+use lib.Dec.{leb}
 use lib.ListN.{length}
-use Rattle.block.proofs.Blocks.{Ranged, part-range, part-refused, channel-is, channel-none}
+use Rattle.block.proofs.Blocks.{within, there-no-channel, there-no-room, there-is, channel-is, channel-refuses}
 use Rattle.block.proofs.channel.Statement.{statement}
 use Rattle.block.proofs.channel.Tie as tie
 
-channel-part-requires : tie.Need-channel-part-requires
-channel-part-requires c κs = search needs
-
-enum-known-part : tie.Need-enum-known-part
-enum-known-part c = search needs
-
-range : (c : tie.After-part)
-    → Ranged (length (c .before .before .before .args .samples .now)) (c .before .before .before .args .block) (c .before .before .before .args .channel) (c .part .given .0 .0) (c .part .given .0 .1 .0)
-range c = let s = c .before .before .before .args in part-range _ (s .block) (s .channel) (c .before .before .channel-part .ensures) (c .part .given .1)
-
-mul-result : tie.Need-mul-result
-mul-result c = record { fits = omega (arith, range (c .before) .inside, range (c .before) .from) }
-
-sub-result : tie.Need-sub-result
-sub-result c = omega (arith, range (c .before) .from, range (c .before) .to)
-
-part-result-start : tie.Need-part-result-start
-part-result-start c = omega (arith, range (c .before) .from, range (c .before) .to)
-
-part-result-end : tie.Need-part-result-end
-part-result-end c = omega (arith, range (c .before) .inside, range (c .before) .to)
-
-enum-told : tie.Need-enum-told
-enum-told c = search needs
-
-slice-aggregate-result : tie.Need-slice-aggregate-result
-slice-aggregate-result c = search needs
-
 returns : tie.Need-returns
-returns c = let s = c .before .before .before .before .before .args in channel-is (s .samples .now) (s .block) (s .channel) (range (c .before .before))
+returns c = let s = c .before .before .args in sym (channel-refuses _ (s .block) (s .channel) (there-no-channel _ (s .block) (s .channel) (c .if1 .taken)))
+
+has-room-requires : tie.Need-has-room-requires
+has-room-requires c κs = search needs
 
 returns-2 : tie.Need-returns-2
 returns-2 c =
     let s = c .before .before .before .before .args in
-    channel-none (s .samples .now) (s .block) (s .channel) (part-refused _ (s .block) (s .channel) (c .before .before .before .channel-part .ensures) (c .before .enum-told .given .1) .0)
+    sym (channel-refuses _ (s .block) (s .channel) (there-no-room _ (s .block) (s .channel) (c .before .before .if1 .left) (sym (c .before .has-room .ensures) ∙ not-true _ (c .if2 .taken))))
+
+room : (c : tie.Else2) → leb (c .before .before .before .before .args .block .channels * c .before .before .before .before .args .block .size) (length (c .before .before .before .before .args .samples .now)) ≡ true
+room c = sym (c .before .has-room .ensures) ∙ not-false _ (c .if2 .left)
+
+inside : (c : tie.Else2) → c .before .before .before .before .args .channel * c .before .before .before .before .args .block .size + c .before .before .before .before .args .block .size ≤ length (c .before .before .before .before .args .samples .now)
+inside c = let s = c .before .before .before .before .args in within (s .block .channels) _ _ _ (c .before .before .if1 .left) (leb-true _ _ (room c))
+
+mul-start : tie.Need-mul-start
+mul-start c = record { fits = omega (arith, inside (c .before)) }
+
+add-end : tie.Need-add-end
+add-end c = record { fits = omega (arith, inside (c .before .before)) }
+
+returns-3 : tie.Need-returns-3
+returns-3 c =
+    let e = c .before .before in
+    let s = e .before .before .before .before .args in
+    sym (channel-is _ (s .block) (s .channel) (there-is _ (s .block) (s .channel) (e .before .before .if1 .left) (room e)))
 
 pub channel-spec : {M : Type 1} → statement M
 channel-spec =
-    tie.close
-    (tie.spec
-    channel-part-requires
-    enum-known-part
-    mul-result
-    sub-result
-    part-result-start
-    part-result-end
-    enum-told
-    slice-aggregate-result
-    returns
-    returns-2)
+    tie.close (tie.spec returns has-room-requires returns-2 mul-start add-end returns-3)

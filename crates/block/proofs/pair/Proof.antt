@@ -12,7 +12,7 @@ use Rattle.block.proofs.pair.Statement.{statement}
 use Rattle.block.proofs.pair.Tie as tie
 
 returns : tie.Need-returns
-returns c = let s = c .before .before .args in pair-not-two (s .samples .now) (s .block) (s .index) (c .if1 .taken)
+returns c = let s = c .before .before .args in pair-not-two (s .samples .now) (s .block) (s .index) (λ two. omega arith)
 
 returns-2 : tie.Need-returns-2
 returns-2 c = let s = c .before .before .before .args in pair-no-index (s .samples .now) (s .block) (s .index) (c .before .if1 .left) (c .if2 .taken)
@@ -31,22 +31,22 @@ room c = sym (c .before .has-room .ensures) ∙ not-false _ (c .if3 .left)
 inside : (c : tie.Else3) → c .before .before .before .before .before .args .block .size + c .before .before .before .before .before .args .index < length (c .before .before .before .before .before .args .samples .now)
 inside c =
     let e = c .before .before in let s = e .before .before .before .args in
-    pair-inside (s .samples .now) (s .block) (s .index) (e .before .if1 .left) (e .if2 .left) (room c)
+    pair-inside (s .samples .now) (s .block) (s .index) (omega arith) (e .if2 .left) (room c)
 
-mul-t8 : tie.Need-mul-t8
-mul-t8 c = record { fits = omega (arith, inside c) }
+mul-left : tie.Need-mul-left
+mul-left c = record { fits = omega (arith, inside c) }
 
-shared-slice-copy-out-t12 : tie.Need-shared-slice-copy-out-t12
-shared-slice-copy-out-t12 c = omega (arith, inside c)
+shared-slice-copy-out-left : tie.Need-shared-slice-copy-out-left
+shared-slice-copy-out-left c = omega (arith, inside c)
 
-add-t13 : tie.Need-add-t13
-add-t13 c = record { fits = omega (arith, inside (c .before)) }
+add-at : tie.Need-add-at
+add-at c = record { fits = omega (arith, inside (c .before)) }
 
-mul-t14 : tie.Need-mul-t14
-mul-t14 c = record { fits = omega (arith, inside (c .before)) }
+mul-right : tie.Need-mul-right
+mul-right c = record { fits = omega (arith, inside (c .before)) }
 
-shared-slice-copy-out-t16 : tie.Need-shared-slice-copy-out-t16
-shared-slice-copy-out-t16 c = inside (c .before)
+shared-slice-copy-out-right : tie.Need-shared-slice-copy-out-right
+shared-slice-copy-out-right c = inside (c .before)
 
 returns-4 : tie.Need-returns-4
 returns-4 c =
@@ -61,9 +61,9 @@ pair-spec =
     returns-2
     has-room-requires
     returns-3
-    mul-t8
-    shared-slice-copy-out-t12
-    add-t13
-    mul-t14
-    shared-slice-copy-out-t16
+    mul-left
+    shared-slice-copy-out-left
+    add-at
+    mul-right
+    shared-slice-copy-out-right
     returns-4)

@@ -1,32 +1,32 @@
--- `sample` meets its contract: an index of the channel lies in the range that `channel_part` told. Assumes nothing.
+-- `sample` meets its contract: an index of the channel lies in the range that `channel` told. Assumes nothing.
 use native.Mathlib.Omega.{arith}
 use borrow.Author.Needs.{needs}
 use lib.ListN.{length}
-use Rattle.block.proofs.Blocks.{Ranged, part-range, part-refused, sample-no-index, sample-none, sample-is}
+use Rattle.block.proofs.Blocks.{Ranged, channel-range, channel-refused, sample-no-index, sample-none, sample-is}
 use Rattle.block.proofs.sample.Statement.{statement}
 use Rattle.block.proofs.sample.Tie as tie
 
 returns : tie.Need-returns
 returns c = let s = c .before .before .args in sample-no-index (s .samples .now) (s .block) (s .channel) (s .index) (c .if1 .taken)
 
-channel-part-requires : tie.Need-channel-part-requires
-channel-part-requires c κs = search needs
+channel-requires : tie.Need-channel-requires
+channel-requires c κs = search needs
 
 enum-known-part : tie.Need-enum-known-part
 enum-known-part c = search needs
 
 range : (c : tie.After-part)
     → Ranged (length (c .before .before .before .before .before .args .samples .now)) (c .before .before .before .before .before .args .block) (c .before .before .before .before .before .args .channel) (c .part .given .0 .0) (c .part .given .0 .1 .0)
-range c = let s = c .before .before .before .before .before .args in part-range _ (s .block) (s .channel) (c .before .before .channel-part .ensures) (c .part .given .1)
+range c = let s = c .before .before .before .before .before .args in channel-range _ (s .block) (s .channel) (c .before .before .channel .ensures) (c .part .given .1)
 
-add-t11 : tie.Need-add-t11
-add-t11 c = record { fits = omega (arith, range (c .before) .inside, range (c .before) .from) }
+add-at : tie.Need-add-at
+add-at c = record { fits = omega (arith, range (c .before) .inside, range (c .before) .from) }
 
-mul-t12 : tie.Need-mul-t12
-mul-t12 c = record { fits = omega (arith, range (c .before) .inside, range (c .before) .from) }
+mul-value : tie.Need-mul-value
+mul-value c = record { fits = omega (arith, range (c .before) .inside, range (c .before) .from) }
 
-shared-slice-copy-out-t14 : tie.Need-shared-slice-copy-out-t14
-shared-slice-copy-out-t14 c = omega (arith, range (c .before) .inside, range (c .before) .from)
+shared-slice-copy-out-value : tie.Need-shared-slice-copy-out-value
+shared-slice-copy-out-value c = omega (arith, range (c .before) .inside, range (c .before) .from)
 
 enum-known-part-2 : tie.Need-enum-known-part-2
 enum-known-part-2 c = search needs
@@ -39,18 +39,18 @@ returns-2 c =
 returns-3 : tie.Need-returns-3
 returns-3 c =
     let e = c .before .before .before .before in let s = e .before .before .args in
-    sample-none (s .samples .now) (s .block) (s .channel) (s .index) (e .if1 .left) (part-refused _ (s .block) (s .channel) (c .before .before .before .channel-part .ensures) (c .before .part2 .given .1))
+    sample-none (s .samples .now) (s .block) (s .channel) (s .index) (e .if1 .left) (channel-refused _ (s .block) (s .channel) (c .before .before .before .channel .ensures) (c .before .part2 .given .1))
 
 pub sample-spec : {M : Type 1} → statement M
 sample-spec =
     tie.close
     (tie.spec
     returns
-    channel-part-requires
+    channel-requires
     enum-known-part
-    add-t11
-    mul-t12
-    shared-slice-copy-out-t14
+    add-at
+    mul-value
+    shared-slice-copy-out-value
     enum-known-part-2
     returns-2
     returns-3)

@@ -11,7 +11,7 @@ use Rattle.rfc9639.specs.Subframe.{subframe}
 use Rattle.rfc9639.specs.Frame.{widths}
 use Rattle.subframe.proofs.Lending.{done-is}
 use Rattle.header.proofs.Stepping.{passed-on}
-use Rattle.frame.specs.Answers.{checked, checkedRefusal}
+use Rattle.frame.specs.Private.{checked, checkedRefusal}
 use Rattle.frame.proofs.Channels.{channels-stop, footer-stops, body-done}
 use Rattle.frame.proofs.Footing.{footer-got}
 use Rattle.frame.proofs.decode_body.Statement.{statement}

@@ -2,7 +2,7 @@
 use mathlib.Core.Path.{refl, sym}
 use borrow.Author.Needs.{needs}
 use Rattle.header.specs.Answers.{headed}
-use Rattle.frame.specs.Answers.{headedRefusal}
+use Rattle.frame.specs.Private.{headedRefusal}
 use Rattle.header.proofs.Heading.{header-got}
 use Rattle.header.proofs.Stepping.{passed-on}
 use Rattle.frame.proofs.Answering.{nothing-left, header-stops}

@@ -4,7 +4,7 @@ use mathlib.Core.Path.{_≡_, refl, sym, ap, _∙_}
 use Rattle.reading.specs.Places.{gotAt, runAt}
 use Rattle.reading.proofs.Running.{bind-got}
 use Rattle.rfc9639.specs.Header.{sync, sizeAndRate, channelsAndBits, codes}
-use Rattle.header.specs.Answers.{fielded, fieldedRefusal, thirdly, thirdlyRefusal, fourthly, fourthlyRefusal}
+use Rattle.header.specs.Private.{fielded, fieldedRefusal, thirdly, thirdlyRefusal, fourthly, fourthlyRefusal}
 use Rattle.error.proofs.Passing.{bind-refusal}
 use Rattle.header.proofs.Stepping.{passed-on, then-done}
 use Rattle.header.proofs.read_codes.Statement.{statement}

@@ -8,7 +8,7 @@ use Rattle.reading.proofs.Running.{stays-in, bind-got, bind-short}
 use Rattle.input.proofs.Laws.{read-got, read-short, bit-is}
 use Rattle.rfc9639.specs.Header.{bitDepth, depthAndZero}
 use Rattle.demands.proofs.Frames.{depth-holds}
-use Rattle.header.specs.Answers.{depthTree}
+use Rattle.header.specs.Private.{depthTree}
 use Rattle.header.proofs.Stepping.{check-fails, check-done, known-done, known-stops}
 use Rattle.header.proofs.read_depth.Statement.{statement}
 use Rattle.header.proofs.read_depth.Tie as tie

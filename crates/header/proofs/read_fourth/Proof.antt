@@ -10,8 +10,8 @@ use Rattle.reading.proofs.Running.{bind-short}
 use Rattle.reading.proofs.Holding.{Meets, holds-at}
 use Rattle.input.proofs.Laws.{read-got, read-short}
 use Rattle.rfc9639.specs.Header.{depthAndZero, channelsAndBits}
-use Rattle.demands.proofs.Frames.{Listed, zero-holds}
-use Rattle.header.specs.Answers.{fielded}
+use Rattle.demands.proofs.Frames.{Early, zero-holds}
+use Rattle.header.specs.Private.{fielded}
 use Rattle.error.proofs.Passing.{bind-refusal}
 use Rattle.header.proofs.Stepping.{then-done, check-fails, check-holds}
 use Rattle.header.proofs.read_fourth.Statement.{statement}
@@ -52,7 +52,7 @@ depth-is : (c : tie.After-depth) → runAt depthAndZero (c .before .before .befo
 depth-is c = sym (c .before .before .read-depth .ensures) ∙ ap fielded (c .depth .given .1)
 
 depth-few : (c : tie.After-depth) → c .depth .given .0 .0 ≤ 24
-depth-few c = subst (Meets Listed (λ d. d ≤ 24)) (depth-is c) (holds-at Listed _ _ _ zero-holds)
+depth-few c = subst (Meets Early (λ d. d ≤ 24)) (depth-is c) (holds-at Early _ _ _ zero-holds)
 
 cast-t15 : tie.Need-cast-t15
 cast-t15 c = omega (arith, depth-few (c .before .before))

@@ -4,7 +4,7 @@ use mathlib.Core.Path.{_≡_, refl, sym, ap, _∙_}
 use Rattle.reading.specs.Places.{gotAt, placeOf, runAt}
 use Rattle.reading.proofs.Running.{bind-got}
 use Rattle.rfc9639.specs.Header.{codes, header}
-use Rattle.header.specs.Answers.{coded, codedRefusal}
+use Rattle.header.specs.Private.{coded, codedRefusal}
 use Rattle.error.proofs.Passing.{bind-refusal}
 use Rattle.header.proofs.Stepping.{passed-on}
 use Rattle.header.proofs.Heading.{codes-coded, codes-byte}

@@ -8,7 +8,7 @@ use Rattle.reading.specs.Places.{gotAt, shortAt, runAt}
 use Rattle.reading.proofs.Running.{bind-got, bind-short}
 use Rattle.input.proofs.Laws.{read-got, read-short}
 use Rattle.rfc9639.specs.Header.{blockTime, blockSize, rateBits, headerSum, headerBehind}
-use Rattle.header.specs.Answers.{fielded, fieldedRefusal, timed, timedRefusal, checked, checkedRefusal}
+use Rattle.header.specs.Private.{fielded, fieldedRefusal, timed, timedRefusal, checked, checkedRefusal}
 use Rattle.error.proofs.Passing.{bind-refusal}
 use Rattle.header.proofs.Stepping.{passed-on, then-done}
 use Rattle.header.proofs.Moving.{moves-at, time-whole, size-whole, rate-whole}

@@ -5,7 +5,7 @@ use mathlib.Core.Path.{_≡_, sym, ap, _∙_}
 use Rattle.reading.specs.Places.{gotAt, runAt}
 use Rattle.rfc9639.specs.Number.{codedNumber}
 use Rattle.rfc9639.specs.Header.{blockTime}
-use Rattle.header.specs.Answers.{fielded}
+use Rattle.header.specs.Private.{fielded}
 use Rattle.error.proofs.Passing.{bind-refusal}
 use Rattle.header.proofs.Heading.{frame-late, frame-time, sample-time}
 use Rattle.header.proofs.read_time.Statement.{statement}

@@ -3,7 +3,7 @@ use borrow.Author.Needs.{needs}
 use Rattle.reading.proofs.Spelling.{number}
 use Rattle.rfc9639.specs.Write.{codeBits}
 use Rattle.output.proofs.Chaining.{first, behind, inked-then}
-use Rattle.heading.specs.Heads.{threeBits}
+use Rattle.heading.specs.Private.{threeBits}
 use Rattle.heading.proofs.Heading.{three-binary}
 use Rattle.heading.proofs.write_codes.Statement.{statement}
 use Rattle.heading.proofs.write_codes.Tie as tie

@@ -2,7 +2,7 @@
 use borrow.Author.Needs.{needs}
 use Rattle.reading.proofs.Spelling.{number}
 use Rattle.output.proofs.Chaining.{first, behind, inked-then}
-use Rattle.heading.specs.Heads.{threeBits}
+use Rattle.heading.specs.Private.{threeBits}
 use Rattle.heading.proofs.write_three.Statement.{statement}
 use Rattle.heading.proofs.write_three.Tie as tie
 

@@ -6,7 +6,7 @@ use lib.ListN.{length}
 use Rattle.reading.specs.Places.{runAt}
 use Rattle.rfc9639.specs.declared.SubframeType.{SubframeType}
 use Rattle.rfc9639.specs.Subframe.{samples, orderOf}
-use Rattle.subframe.specs.Parts.{Orderly}
+use Rattle.subframe.specs.Private.{Orderly}
 use Rattle.subframe.proofs.decode_kind.Statement.{statement}
 use Rattle.subframe.proofs.decode_kind.Tie as tie
 

@@ -13,7 +13,7 @@ use Rattle.reading.specs.Places.{gotAt, runAt}
 use Rattle.rfc9639.specs.Integers.{sample}
 use Rattle.subframe.specs.Answers.{means}
 use Rattle.rfc9639.specs.Subframe.{quantization, lpcBehind}
-use Rattle.subframe.specs.Parts.{quantized}
+use Rattle.subframe.specs.Private.{quantized}
 use Rattle.subframe.proofs.Lending.{done-is, refused-is, first-size, first-taken, between-long}
 use Rattle.subframe.proofs.Behind.{quantization-got, quantization-sound, quantization-stops, lpc-stops-warm, lpc-stops-quantization, lpc-behind}
 use Rattle.subframe.proofs.decode_lpc.Statement.{statement}

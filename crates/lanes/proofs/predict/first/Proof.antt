@@ -5,7 +5,7 @@ use mathlib.Core.List.{[], _∷_}
 use lib.IntN.{pos}
 use Rattle.rfc9639.specs.Prediction.{fixedCoefficients}
 use Rattle.rfc9639.specs.Write.{stored}
-use Rattle.lanes.specs.Predicted.{predictedAt}
+use Rattle.lanes.specs.Private.{predictedAt}
 use Rattle.lanes.proofs.Predicting.{begin, step, end}
 use Rattle.lanes.proofs.predict.first.Statement.{statement}
 use Rattle.lanes.proofs.predict.first.Tie as tie

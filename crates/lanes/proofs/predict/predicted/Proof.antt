@@ -6,7 +6,7 @@ use mathlib.Core.List.{List}
 use borrow.Author.Needs.{needs}
 use lib.IntN.{ℤ}
 use Rattle.rfc9639.specs.Write.{stored}
-use Rattle.lanes.specs.Predicted.{predictedAt}
+use Rattle.lanes.specs.Private.{predictedAt}
 use Rattle.lanes.proofs.Predicting.{predicted-none, predicted-above, carried}
 use Rattle.lanes.proofs.predict.predicted.Statement.{statement}
 use Rattle.lanes.proofs.predict.predicted.Tie as tie

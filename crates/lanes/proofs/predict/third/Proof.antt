@@ -5,7 +5,7 @@ use borrow.Author.Needs.{needs}
 use lib.IntN.{ℤ, pos, negsuc}
 use Rattle.rfc9639.specs.Prediction.{fixedCoefficients}
 use Rattle.rfc9639.specs.Write.{stored}
-use Rattle.lanes.specs.Predicted.{predictedAt}
+use Rattle.lanes.specs.Private.{predictedAt}
 use Rattle.signed.proofs.Signs.{bits64}
 use Rattle.lanes.proofs.Predicting.{Tapped, begin, step, room, end}
 use Rattle.lanes.proofs.predict.third.Statement.{statement}

@@ -4,7 +4,7 @@ use mathlib.Core.Path.{_≡_, sym, ap, _∙_}
 use Rattle.reading.specs.Reading.{bits}
 use Rattle.reading.specs.Places.{gotAt, runAt}
 use Rattle.input.proofs.Laws.{read-got, read-short}
-use Rattle.subframe.specs.Parts.{kindTree, wastedOf}
+use Rattle.subframe.specs.Private.{kindTree, wastedOf}
 use Rattle.subframe.proofs.Heads.{code-short, type-reserved, known-got, known-stops}
 use Rattle.subframe.proofs.header.read_kind.Statement.{statement}
 use Rattle.subframe.proofs.header.read_kind.Tie as tie

@@ -6,7 +6,7 @@ use mathlib.Core.List.{List}
 use borrow.Author.Needs.{needs}
 use lib.IntN.{ℤ}
 use lib.ListN.{length, take, drop}
-use Rattle.number.specs.Small.{Small}
+use Rattle.number.specs.Private.{Small}
 use Rattle.rfc9639.specs.Prediction.{predict, fixedCoefficients}
 use Rattle.subframe.proofs.PredictSums.{fixed-row}
 use Rattle.subframe.proofs.predict.predict_fixed.Statement.{statement}

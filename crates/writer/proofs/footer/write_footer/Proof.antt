@@ -5,7 +5,7 @@ use lib.ListN.{length, take}
 use mathlib.Core.Path.{_∙_, ap}
 use Rattle.reading.specs.Spelling.{bitsOf}
 use Rattle.output.specs.Ink.{inked}
-use Rattle.writer.specs.Footing.{filled, summed}
+use Rattle.writer.specs.Private.{filled, summed}
 use Rattle.writer.proofs.Footed.{filled-within}
 use native.Mathlib.Nat.{sub-zero}
 use Rattle.reading.specs.Bytes.{bitsOfBytes}

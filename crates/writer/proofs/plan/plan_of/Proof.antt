@@ -6,7 +6,7 @@ use mathlib.Core.Path.{refl}
 use Rattle.rfc9639.specs.Header.{assignment}
 use Rattle.rfc9639.specs.Write.{laneOf}
 use Rattle.rfc9639.proofs.Listing.{channels-between}
-use Rattle.writer.specs.Plans.{laneChoice}
+use Rattle.writer.specs.Private.{laneChoice}
 use Rattle.writer.proofs.Planning.{Planned, begin, step, at-end, planned-all}
 use Rattle.writer.proofs.Counting.{Counted, counted-none, counted-more, counted-all}
 use Rattle.writer.proofs.plan.plan_of.Statement.{statement}

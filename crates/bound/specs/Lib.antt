@@ -1,0 +1,2 @@
+-- How long a frame is at most.
+pub mod Longest

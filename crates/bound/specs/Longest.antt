@@ -1,0 +1,10 @@
+-- The length that no frame with some settings exceeds.
+use Prim.Native.Nat.{ℕ, _*_}
+use Rattle.reading.specs.Reading.{if_then_else_}
+use Rattle.rfc9639.specs.declared.FrameSetting.{FrameSetting}
+use Rattle.rfc9639.specs.Header.{assignment, channelCount}
+use Rattle.rfc9639.specs.Write.{allowed, frameBound}
+
+-- of as many samples as the settings want; 0 where no frame has such settings
+unfoldable pub longestOf : FrameSetting → ℕ
+longestOf set = if allowed set (channelCount (assignment (set .channels)) * set .size) then frameBound set else 0

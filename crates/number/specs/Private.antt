@@ -1,0 +1,10 @@
+-- Lists of small numbers: what a sum of products asks, so that it is exact. Only contracts of private functions name it, so
+-- nobody has to believe it.
+use Prim.Native.Nat.{ℕ, _<_}
+use mathlib.Core.List.{List, [], _∷_}
+use lib.IntN.{ℤ, natAbs}
+
+-- each number's size is below b
+abbrev pub Small : ℕ → List ℤ → Type 0
+Small b [] = Unit {0}
+Small b (z ∷ zs) = (natAbs z < b) × Small b zs

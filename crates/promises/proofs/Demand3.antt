@@ -1,0 +1,122 @@
+-- DEMAND 3, of the code: over any two outcomes of `read_frame`. What an answer asks of the caller (`needs`, crate `error`) is
+-- just what can change it: no bytes change an answer that does not wait for bytes, and no room one that does not want room.
+-- Assumes nothing.
+use Prim.Native.Nat.{ℕ, _≤_, _<_}
+use native.Mathlib.Omega.{arith}
+use mathlib.Core.Logic.{_≢_}
+use mathlib.Core.Path.{_≡_, refl, ap, sym, _∙_}
+use mathlib.Core.List.{List, [], _++_}
+use lib.IntN.{ℤ}
+use lib.ListN.{length, take, drop}
+use Rattle.error.specs.declared.Refusal.{Refusal}
+use Rattle.error.specs.declared.Refusal.the-variants.{NothingLeft, CutShort, NoRoom}
+use Rattle.error.specs.declared.Need.{Need}
+use Rattle.error.specs.declared.Need.the-variants.{Wait, Room, Final}
+use Rattle.error.specs.Numbers.{numberOf}
+use Rattle.error.specs.Needs.{needsOf}
+use Rattle.error.proofs.Outcome.{number-tells, some-number}
+use Rattle.rfc9639.specs.Read.{Report, refusal, Outcome, read}
+use Rattle.demands.proofs.Demand3
+use Rattle.demands.proofs.Table.{Table, table}
+use Rattle.frame.specs.declared.Accepted.{Accepted}
+use Rattle.frame.specs.declared.Answer.{Answer}
+use Rattle.frame.specs.Reads.{reportOf, Reads}
+use Rattle.frame.proofs.Outcome.{report-tells}
+use Rattle.promises.proofs.Outcomes.{ReadFrame, reads}
+
+-- what an answer asks of the caller: a frame asks nothing more
+abbrev pub asks : Answer → Need
+asks (Answer.Frame f) = Final
+asks (Answer.Refused e) = needsOf e
+
+-- ---- answers and numbers
+
+-- a number names its refusal
+named : (r : Answer) (x : Refusal) → reportOf r .number ≡ numberOf x → r ≡ Answer.Refused x
+unfolding refusal
+named (Answer.Frame f) x e = absurd (omega (arith, some-number x))
+named (Answer.Refused y) x e = ap Answer.Refused (number-tells y x e)
+
+-- two outcomes of one definition's outcome
+equal : {x y : Outcome} {r r′ : Answer} {left left′ : List ℤ} → x ≡ y → Reads x r left → Reads y r′ left′ → (r ≡ r′) × (left ≡ left′)
+equal {r = r} {r′ = r′} e p q = (
+  report-tells r r′ (p .report ∙ ap (λ (o : Outcome). o .report) e ∙ sym (q .report)),
+  p .samples ∙ ap (λ (o : Outcome). o .buffer) e ∙ sym (q .samples),
+)
+
+module _ {s : List ℕ} {b : List ℤ} {r : Answer} {left : List ℤ} (o : ReadFrame s b r left) where
+  number-is : read s b .report .number ≡ reportOf r .number
+  number-is = sym (ap (λ (q : Report). q .number) (reads o .report))
+
+  -- an answer by its number
+  asks-by : (x : Refusal) → read s b .report .number ≡ numberOf x → asks r ≡ needsOf x
+  asks-by x e = ap asks (named r x (sym number-is ∙ e))
+
+  -- ---- 1. More bytes never unsay an answer that does not wait for them: the answer and the buffer are the same.
+
+  pub bytes-change-nothing : asks r ≢ Wait → (t : List ℕ) {r′ : Answer} {left′ : List ℤ} → ReadFrame (s ++ t) b r′ left′ → (r ≡ r′) × (left ≡ left′)
+  bytes-change-nothing known t p = equal (sym (Demand3.never-unsaid s t b (λ e. known (asks-by NothingLeft e)) (λ e. known (asks-by CutShort e)))) (reads o) (reads p)
+
+  -- ---- 2. More room changes no answer that does not want it; what the buffer has more is untouched.
+
+  pub room-changes-nothing : asks r ≢ Room → (more : List ℤ) {r′ : Answer} {left′ : List ℤ} → ReadFrame s (b ++ more) r′ left′ → (r ≡ r′) × (left ++ more ≡ left′)
+  room-changes-nothing roomy more {r′} p =
+      let same = Demand3.more-room s b more (λ e. roomy (asks-by NoRoom e)) in (
+        report-tells r r′ (reads o .report ∙ sym (ap (λ (x : Outcome). x .report) same) ∙ sym (reads p .report)),
+        ap (λ (l : List ℤ). l ++ more) (reads o .samples) ∙ sym (ap (λ (x : Outcome). x .buffer) same) ∙ sym (reads p .samples),
+      )
+
+  -- ---- 3. A frame: its counted bytes are there, they alone get its answer and buffer, and each shorter beginning is cut short.
+
+  module _ {f : Accepted} (is : r ≡ Answer.Frame f) where
+    zero-number : read s b .report .number ≡ 0
+    zero-number = number-is ∙ ap (λ (q : Answer). reportOf q .number) is
+
+    consumed-is : read s b .report .consumed ≡ f .consumed
+    consumed-is = sym (ap (λ (q : Report). q .consumed) (sym (ap reportOf is) ∙ reads o .report))
+
+    pub counted-there : f .consumed ≤ length s
+    counted-there = omega (arith, consumed-is, Demand3.counted-there s b zero-number)
+
+    pub counted-suffice : {r′ : Answer} {left′ : List ℤ} → ReadFrame (take (f .consumed) s) b r′ left′ → (r ≡ r′) × (left ≡ left′)
+    counted-suffice p =
+        equal (sym (ap (λ n. read (take n s) b) (sym consumed-is) ∙ Demand3.counted-suffice s b zero-number)) (reads o) (reads p)
+
+    pub fewer-cut-short : (m : ℕ) → 0 < m → m < f .consumed → {r′ : Answer} {left′ : List ℤ} → ReadFrame (take m s) b r′ left′ → r′ ≡ Answer.Refused CutShort
+    fewer-cut-short m some less {r′} p =
+        named r′ CutShort
+        (ap (λ (q : Report). q .number) (reads p .report)
+        ∙ Demand3.fewer-cut-short s b zero-number m some (omega (arith, consumed-is)))
+
+  -- ---- 4. What the buffer held sways nothing.
+
+  pub unswayed : {b′ : List ℤ} → length b ≡ length b′ → {r′ : Answer} {left′ : List ℤ} → ReadFrame s b′ r′ left′ → r ≡ r′
+  unswayed {b′} e {r′} p = report-tells r r′ (reads o .report ∙ Demand3.unswayed-report s b b′ e ∙ sym (reads p .report))
+
+  -- ---- 5. Document 01's table, of what the samples hold afterwards.
+
+  pub left-by-table : (left ≡ read s b .buffer) × Table s b
+  left-by-table = (reads o .samples, table s b)
+
+-- nothing left is 1, and the buffer stays
+pub nothing-left : {b : List ℤ} {r : Answer} {left : List ℤ} → ReadFrame [] b r left → (r ≡ Answer.Refused NothingLeft) × (left ≡ b)
+nothing-left {b} {r} o =
+    let one = Demand3.nothing-left b in
+    (named r NothingLeft (sym (number-is o) ∙ one), reads o .samples ∙ table [] b .row-1 one)
+
+-- ---- What is final stays, whatever bytes follow and however much room there is more.
+
+pub final-stays : {s : List ℕ} {b : List ℤ} {r : Answer} {left : List ℤ} → ReadFrame s b r left → asks r ≡ Final
+    → (t : List ℕ) (more : List ℤ) {r′ : Answer} {left′ : List ℤ} → ReadFrame (s ++ t) (b ++ more) r′ left′ → (r ≡ r′) × (left ++ more ≡ left′)
+final-stays {s} {b} {r} {left} o final t more {r′} p =
+    let longer = Demand3.never-unsaid s t b (λ e. apart (sym final ∙ asks-by o NothingLeft e)) (λ e. apart (sym final ∙ asks-by o CutShort e)) in
+    let roomier = Demand3.more-room (s ++ t) b more (λ e. roomless (sym final ∙ asks-by o NoRoom (sym (ap (λ (x : Outcome). x .report .number) longer) ∙ e))) in (
+      report-tells r r′ (reads o .report ∙ sym (ap (λ (x : Outcome). x .report) longer) ∙ sym (ap (λ (x : Outcome). x .report) roomier) ∙ sym (reads p .report)),
+      ap (λ (l : List ℤ). l ++ more) (reads o .samples ∙ sym (ap (λ (x : Outcome). x .buffer) longer)) ∙ sym (ap (λ (x : Outcome). x .buffer) roomier) ∙ sym (reads p .samples),
+    )
+  where
+    apart : Final ≡ Wait → ⊥
+    apart e = let z : _≡_ {A = ℕ} 0 1 = cc in omega arith
+
+    roomless : Final ≡ Room → ⊥
+    roomless e = let z : _≡_ {A = ℕ} 0 1 = cc in omega arith

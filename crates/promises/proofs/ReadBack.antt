@@ -1,0 +1,78 @@
+-- READ-BACK, of the code: what any outcome of `write_frame` left in the output, read by any outcome of `read_frame` into
+-- enough room, is the samples again, whatever bytes follow the frame; and the frame is within the length bound.
+-- Assumes nothing.
+use Prim.Native.Nat.{ℕ, _≤_}
+use native.Mathlib.Omega.{arith}
+use mathlib.Core.Path.{_≡_, refl, ap, sym, _∙_, subst}
+use mathlib.Core.Bool.{Bool, true, false, cond}
+use mathlib.Core.List.{List, _++_}
+use lib.Dec.{leb}
+use lib.IntN.{ℤ}
+use lib.ListN.{length, take, drop}
+use lib.Seq.{take-append-seam}
+use Rattle.rfc9639.specs.declared.FrameSetting.{FrameSetting}
+use Rattle.rfc9639.specs.Header.{assignment, channelCount}
+use Rattle.rfc9639.specs.Read.{Outcome, read}
+use Rattle.rfc9639.specs.Write.{frameBytes, frameBound, allowed, allFit, Written, unwritten, write}
+use Rattle.rfc9639.proofs.Bound.{within-bound}
+use Rattle.readback.specs.First.{firstOf}
+use Rattle.readback.proofs.ReadBack.{read-back}
+use Rattle.frame.specs.declared.Answer.{Answer}
+use Rattle.frame.proofs.Outcome.{report-tells}
+use Rattle.writer.specs.declared.Answer as written
+use Rattle.writer.specs.Outcomes.{outcome}
+use Rattle.promises.proofs.Outcomes.{ReadFrame, reads, WriteFrame, writes}
+
+-- what a frame that was written says of its settings and samples
+record Wrote (set : FrameSetting) (xs : List ℤ) (out : List ℕ) (n : ℕ) (left : List ℕ) : Type 0 where
+  ok : allowed set (length xs) ≡ true
+  fit : allFit (set .bits) xs ≡ true
+  long : n ≡ length (frameBytes set xs)
+  laid : left ≡ frameBytes set xs ++ drop (length (frameBytes set xs)) out
+
+wrote : (set : FrameSetting) (xs : List ℤ) (out : List ℕ) (n : ℕ) (left : List ℕ) → outcome (written.Answer.Frame n) left ≡ write set xs out → Wrote set xs out n left
+unfolding write unwritten
+wrote set xs out n left e = go (allowed set (length xs)) refl (allFit (set .bits) xs) refl (leb (length (frameBytes set xs)) (length out)) e
+  where
+    at-length : (b : Bool) → Written
+    at-length b = cond b (record { number = 0; length = length (frameBytes set xs); output = frameBytes set xs ++ drop (length (frameBytes set xs)) out }) (unwritten 13 out)
+
+    go : (a : Bool) → allowed set (length xs) ≡ a → (f : Bool) → allFit (set .bits) xs ≡ f → (l : Bool)
+        → outcome (written.Answer.Frame n) left ≡ cond a (cond f (at-length l) (unwritten 12 out)) (unwritten 11 out) → Wrote set xs out n left
+    go true a true f true e = record {
+      ok = a;
+      fit = f;
+      long = ap (λ (w : Written). w .length) e;
+      laid = ap (λ (w : Written). w .output) e;
+    }
+    go true a true f false e = absurd (let z = ap (λ (w : Written). w .number) e in omega arith)
+    go true a false f l e = absurd (let z = ap (λ (w : Written). w .number) e in omega arith)
+    go false a f g l e = absurd (let z = ap (λ (w : Written). w .number) e in omega arith)
+
+module _ {set : FrameSetting} {xs : List ℤ} {out : List ℕ} {n : ℕ} {left : List ℕ} (o : WriteFrame set xs out (written.Answer.Frame n) left) where
+  abbrev w : Wrote set xs out n left
+  w = wrote set xs out n left (writes o)
+
+  -- the frame stands first in the output
+  frame-first : take n left ≡ frameBytes set xs
+  frame-first = ap (λ m. take m left) (w .long) ∙ ap (take (length (frameBytes set xs))) (w .laid) ∙ take-append-seam (frameBytes set xs) _
+
+  pub written-within-bound : n ≤ frameBound set
+  written-within-bound = omega (arith, w .long, within-bound set xs)
+
+  pub written-reads-back : (rest : List ℕ) (b : List ℤ) → length xs ≤ length b → {r : Answer} {kept : List ℤ} → ReadFrame (take n left ++ rest) b r kept
+      → (r ≡ Answer.Frame (record { consumed = n; first = firstOf set; channels = channelCount (assignment (set .channels)); bits = set .bits; size = set .size }))
+      × (kept ≡ xs ++ drop (length xs) b)
+  written-reads-back rest b room {r} p =
+      let back =
+      ap (λ (x : List ℕ). read (x ++ rest) b) frame-first ∙ read-back set xs (w .ok) (w .fit) rest b room in (
+        report-tells r _ (reads p .report ∙ ap (λ (x : Outcome). x .report) back ∙ ap (λ m. record {
+          number = 0;
+          consumed = m;
+          first = firstOf set;
+          channels = channelCount (assignment (set .channels));
+          bits = set .bits;
+          size = set .size;
+        }) (sym (w .long))),
+        reads p .samples ∙ ap (λ (x : Outcome). x .buffer) back,
+      )

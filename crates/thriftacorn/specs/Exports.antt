@@ -1,0 +1,45 @@
+-- What each exported function promises: the number that it returns and what it leaves behind each reference are those of the
+-- definition. Each predicate has the name of its function: first the arguments, then what comes back.
+use Prim.Native.Nat.{ℕ}
+use mathlib.Core.Path.{_≡_}
+use mathlib.Core.List.{List}
+use lib.IntN.{ℤ}
+use Rattle.rfc9639.specs.Read.{Outcome, read}
+use Rattle.rfc9639.specs.Write.{Written, write}
+use Rattle.bound.specs.Longest.{longestOf}
+use Rattle.block.specs.Blocks.{channelOf, sampleOf, pairOf}
+use Rattle.block.specs.Reports.{ChannelReport, SampleReport, PairReport, channelReport, sampleReport, pairReport}
+
+abbrev pub ReadFrameV1 : List ℕ → List ℤ → ℕ → ℕ → ℕ → ℕ → ℕ → ℕ → List ℤ → Type 0
+ReadFrameV1 bytes samples number consumed first channels bits size left =
+    _≡_ {A = Outcome}
+    (record {
+      report = record { number = number; consumed = consumed; first = first; channels = channels; bits = bits; size = size };
+      buffer = left;
+    })
+    (read bytes samples)
+
+abbrev pub WriteFrameV1 : ℕ → ℕ → ℕ → ℕ → ℕ → List ℤ → List ℕ → ℕ → ℕ → List ℕ → Type 0
+WriteFrameV1 channels bits blocking number size samples out refusal length left =
+    _≡_ {A = Written} (record { number = refusal; length = length; output = left })
+    (write (record { channels = channels; bits = bits; blocking = blocking; number = number; size = size }) samples out)
+
+abbrev pub LongestV1 : ℕ → ℕ → ℕ → ℕ → ℕ → ℕ → Type 0
+LongestV1 channels bits blocking number size length =
+    length ≡ longestOf (record { channels = channels; bits = bits; blocking = blocking; number = number; size = size })
+
+-- of a block whose samples are so many
+abbrev pub ChannelV1 : ℕ → ℕ → ℕ → ℕ → ℕ → ℕ → ℕ → Type 0
+ChannelV1 count channels size channel number start end =
+    _≡_ {A = ChannelReport} (record { number = number; start = start; end = end })
+    (channelReport (channelOf count (record { channels = channels; size = size }) channel))
+
+abbrev pub SampleV1 : List ℤ → ℕ → ℕ → ℕ → ℕ → ℕ → ℤ → Type 0
+SampleV1 samples channels size channel index number value =
+    _≡_ {A = SampleReport} (record { number = number; value = value })
+    (sampleReport (sampleOf samples (record { channels = channels; size = size }) channel index))
+
+abbrev pub PairV1 : List ℤ → ℕ → ℕ → ℕ → ℕ → ℤ → ℤ → Type 0
+PairV1 samples channels size index number left right =
+    _≡_ {A = PairReport} (record { number = number; left = left; right = right })
+    (pairReport (pairOf samples (record { channels = channels; size = size }) index))

@@ -1,0 +1,79 @@
+-- One step: what the bytes from a place on come to, and where the next place lies. Assumes nothing.
+use Prim.Native.Nat.{ℕ, _+_, _-_, _*_, _≤_, _<_, min}
+use native.Mathlib.Nat.{min-eq-left, min-eq-right}
+use native.Mathlib.Omega.{arith}
+use native.Mathlib.Decide.{decLe}
+use mathlib.Core.Path.{_≡_, refl, ap, sym, _∙_, subst}
+use mathlib.Core.List.{List}
+use lib.IntN.{ℤ}
+use lib.ListN.{length, take, drop, length-drop, drop-of-length-le}
+use lib.Seq.{take-all}
+use Rattle.rfc9639.specs.Read.{Report, refusal, read}
+use Rattle.error.specs.declared.Refusal.{Refusal}
+use Rattle.frame.specs.declared.Accepted.{Accepted}
+use Rattle.frame.specs.declared.Answer.{Answer}
+use Rattle.frame.specs.Reads.{reportOf, Reads}
+use Rattle.demands.proofs.Demand3.{counted-some}
+use Rattle.frame.proofs.Taking.{buffer-length, bytes-there, samples-there}
+use Rattle.walk.specs.declared.Step.{Step}
+use Rattle.walk.specs.Steps.{Steps}
+
+-- a place past the end has as much after it as the end
+pub drop-lesser : (place : ℕ) (s : List ℕ) → drop (min place (length s)) s ≡ drop place s
+drop-lesser place s = go (decLe place (length s))
+  where
+    go : Dec (place ≤ length s) → drop (min place (length s)) s ≡ drop place s
+    go (yes h) = ap (λ n. drop n s) (min-eq-left h)
+    go (no h) =
+        ap (λ n. drop n s) (min-eq-right {n = length s} {m = place} (omega arith)) ∙ drop-of-length-le s {i = length s} (omega arith) ∙ sym (drop-of-length-le s {i = place} (omega arith))
+
+-- a part from the lesser of the two to the end
+pub part-rest : (s : List ℕ) (place start : ℕ) → start ≡ min place (length s) → take (length s - start) (drop start s) ≡ drop place s
+part-rest s place start e = take-all (length s - start) (drop start s) (omega (arith, length-drop start s)) ∙ ap (λ n. drop n s) e ∙ drop-lesser place s
+
+module _ (s : List ℕ) (place : ℕ) (b : List ℤ) {left : List ℤ} {r : Answer} (h : Reads (read (drop place s) b) r left) where
+  module _ {f : Accepted} (e : r ≡ Answer.Frame f) where
+    -- the place after a frame is one of the input; where there was none, it would count no bytes
+    pub next-there : place + f .consumed ≤ length s + (place - length s)
+    next-there = let t = bytes-there (drop place s) b h e in omega (arith, length-drop place s)
+
+    pub frame-steps : Steps s place b (record { answer = Answer.Frame f; place = place + f .consumed }) left
+    frame-steps = record {
+      answer = subst (λ (q : Answer). Reads (read (drop place s) b) q left) e h;
+      next = ap (λ (q : Report). place + q .consumed) (ap reportOf (sym e) ∙ h .report);
+    }
+
+  pub refused-steps : {x : Refusal} → r ≡ Answer.Refused x → Steps s place b (record { answer = r; place = place }) left
+  unfolding refusal
+  refused-steps e = record {
+    answer = h;
+    next = let c = ap (λ (q : Report). q .consumed) (sym (h .report) ∙ ap reportOf e) in omega arith;
+  }
+
+-- ---- for callers
+
+module _ (s : List ℕ) (place : ℕ) (b : List ℤ) {r : Step} {left : List ℤ} (h : Steps s place b r left) where
+  pub buffer-kept : length left ≡ length b
+  buffer-kept = buffer-length (drop place s) b (h .answer)
+
+  module _ {f : Accepted} (e : r .answer ≡ Answer.Frame f) where
+    reported : reportOf (Answer.Frame f) ≡ read (drop place s) b .report
+    reported = ap reportOf (sym e) ∙ h .answer .report
+
+    -- a frame has a byte at least
+    pub goes-on : place < r .place
+    goes-on = omega (arith, h .next, counted-some (drop place s) b (sym (ap (λ (q : Report). q .number) reported)))
+
+    -- and its bytes are the input's
+    pub stays-inside : r .place ≤ length s
+    stays-inside =
+        let t = bytes-there (drop place s) b (h .answer) e in
+        let g = goes-on in
+        omega (arith, h .next, ap (λ (q : Report). q .consumed) reported, length-drop place s)
+
+    pub samples-lent : f .channels * f .size ≤ length b
+    samples-lent = samples-there (drop place s) b (h .answer) e
+
+  pub refused-stays : {x : Refusal} → r .answer ≡ Answer.Refused x → r .place ≡ place
+  unfolding refusal
+  refused-stays e = let c = ap (λ (q : Report). q .consumed) (sym (h .answer .report) ∙ ap reportOf e) in omega (arith, h .next)

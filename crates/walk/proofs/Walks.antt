@@ -1,0 +1,100 @@
+-- THE STEPS GIVE THE LIST: every run of steps, from the first byte to the refusal that ends it, shows the definition's
+-- answers to the whole input, in their order, with none skipped and none read twice; whatever each lent buffer held. And a
+-- step in a window that is decided there is the step in the whole card. Assumes nothing.
+use Prim.Native.Nat.{ℕ, _+_, _≤_}
+use native.Mathlib.Omega.{arith}
+use mathlib.Core.Path.{_≡_, refl, ap, sym, _∙_, subst}
+use mathlib.Core.List.{List, [], _∷_, _++_}
+use lib.IntN.{ℤ}
+use lib.ListN.{length, drop}
+use lib.Seq.{drop-drop, drop-append-le, drop-append-add}
+use Rattle.error.specs.declared.Refusal.{Refusal}
+use Rattle.error.proofs.Outcome.{some-number}
+use Rattle.rfc9639.specs.Read.{Report, refusal, Result, result, read}
+use Rattle.rfc9639.specs.FrameByFrame.{Kind, frame, undecided, refused, kindOf, kind, goesOn, answers}
+use Rattle.demands.proofs.FrameByFrame.{frame-zero, Lawful, unrolled, lawful}
+use Rattle.frame.specs.declared.Accepted.{Accepted}
+use Rattle.frame.specs.declared.Answer.{Answer}
+use Rattle.frame.specs.Reads.{reportOf, Reads}
+use Rattle.walk.specs.declared.Step.{Step}
+use Rattle.walk.specs.Steps.{Steps}
+
+-- a step that was taken: what was lent to it, what it gave, and what it left
+pub record Taken : Type 0 where
+  pub lent : List ℤ
+  pub step : Step
+  pub left : List ℤ
+
+-- Steps from a place on, each with as much room, up to and with the first that is refused.
+pub data Walk (s : List ℕ) (room : ℕ) : ℕ → List Taken → Type 0 where
+  stops : {place : ℕ} {t : Taken} (e : Refusal) → length (t .lent) ≡ room → Steps s place (t .lent) (t .step) (t .left)
+      → t .step .answer ≡ Answer.Refused e → Walk s room place (t ∷ [])
+  goes : {place : ℕ} {t : Taken} {ts : List Taken} (f : Accepted) → length (t .lent) ≡ room → Steps s place (t .lent) (t .step) (t .left)
+      → t .step .answer ≡ Answer.Frame f → Walk s room (t .step .place) ts → Walk s room place (t ∷ ts)
+
+-- a step shows an answer of the definition: its report, and its front over what was lent
+pub record Shows (t : Taken) (q : Result) : Type 0 where
+  pub report : reportOf (t .step .answer) ≡ q .report
+  pub samples : t .left ≡ q .front ++ drop (length (q .front)) (t .lent)
+
+-- one for one
+pub data Match : List Taken → List Result → Type 0 where
+  matched : Match [] []
+  matches : {t : Taken} {q : Result} {ts : List Taken} {qs : List Result} → Shows t q → Match ts qs → Match (t ∷ ts) (q ∷ qs)
+
+module _ (s : List ℕ) (room : ℕ) where
+  abbrev one : List ℕ → Result
+  one = result (record { room = room })
+
+  shows : {place : ℕ} (t : Taken) → length (t .lent) ≡ room → Steps s place (t .lent) (t .step) (t .left) → Shows t (one (drop place s))
+  unfolding read
+  shows {place} t e h = record {
+    report = h .answer .report ∙ ap (λ n. result (record { room = n }) (drop place s) .report) e;
+    samples = h .answer .samples ∙ ap (λ n. result (record { room = n }) (drop place s) .front ++ drop (length (result (record { room = n }) (drop place s) .front)) (t .lent)) e;
+  }
+
+  module _ (place : ℕ) {t : Taken} (w : Shows t (one (drop place s))) where
+    frame-kind : {f : Accepted} → t .step .answer ≡ Answer.Frame f → kind (one (drop place s)) ≡ frame
+    unfolding kindOf
+    frame-kind e = ap (λ (r : Report). kindOf (r .number)) (sym (w .report) ∙ ap reportOf e)
+
+    ended : {e : Refusal} → t .step .answer ≡ Answer.Refused e → (l : List Result) → goesOn (kind (one (drop place s))) l ≡ []
+    unfolding refusal goesOn
+    ended {e} is l = go (kind (one (drop place s))) refl
+      where
+        go : (k : Kind) → kind (one (drop place s)) ≡ k → goesOn k l ≡ []
+        go frame z =
+            absurd (omega (arith, some-number e, frame-zero (one (drop place s) .report .number) z, ap (λ (r : Report). r .number) (sym (w .report) ∙ ap reportOf is)))
+        go undecided z = refl
+        go refused z = refl
+
+  next-rest : (place : ℕ) {t : Taken} → length (t .lent) ≡ room → Steps s place (t .lent) (t .step) (t .left)
+      → drop (one (drop place s) .report .consumed) (drop place s) ≡ drop (t .step .place) s
+  unfolding read
+  next-rest place {t} e h =
+      drop-drop (one (drop place s) .report .consumed) place s
+      ∙ ap (λ n. drop n s) (sym (h .next ∙ ap (λ n. place + result (record { room = n }) (drop place s) .report .consumed) e))
+
+  pub walk-shows : {place : ℕ} {ts : List Taken} → Walk s room place ts → Match ts (answers one (drop place s))
+  unfolding goesOn
+  walk-shows {place} (stops {t = t} e l h is) =
+      let w = shows t l h in
+      subst (Match (t ∷ [])) (sym (unrolled (lawful (record { room = room })) (drop place s) ∙ ap (λ (x : List Result). one (drop place s) ∷ x) (ended place w is _))) (matches w matched)
+  walk-shows {place} (goes {t = t} {ts = ts} f l h is rest) =
+      let w = shows t l h in
+      let list =
+      unrolled (lawful (record { room = room })) (drop place s)
+      ∙ ap (λ (k : Kind). one (drop place s) ∷ goesOn k (answers one (drop (one (drop place s) .report .consumed) (drop place s)))) (frame-kind place w is)
+      ∙ ap (λ (x : List ℕ). one (drop place s) ∷ answers one x) (next-rest place {t = t} l h) in
+      subst (Match (t ∷ ts)) (sym list) (matches w (walk-shows rest))
+
+-- from the first byte
+pub steps-give-answers : (s : List ℕ) (room : ℕ) {ts : List Taken} → Walk s room 0 ts → Match ts (answers (result (record { room = room })) s)
+steps-give-answers s room w = walk-shows s room w
+
+-- A window of a card: what is gone, what the window holds, and what is still to come. What is decided in the window is
+-- what the whole card says at that place.
+pub in-window : {one : List ℕ → Result} → Lawful one → (gone window more : List ℕ) (at : ℕ) → at ≤ length window
+    → (kind (one (drop at window)) ≡ undecided → ⊥) → one (drop (length gone + at) (gone ++ (window ++ more))) ≡ one (drop at window)
+in-window {one} law gone window more at h known =
+    ap one (drop-append-add gone (window ++ more) at ∙ drop-append-le at window more h) ∙ law .extended (drop at window) more known

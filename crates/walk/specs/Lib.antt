@@ -1,0 +1,2 @@
+-- One step of a reading frame by frame.
+pub mod Steps

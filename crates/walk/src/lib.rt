@@ -1,0 +1,27 @@
+// A whole input, frame by frame: one step of it. Everything that goes from frame to frame (the programs, the exported
+// function, the Rust binding's loop) goes by this step, and the steps from the first byte on give the definition's list of
+// answers, with none skipped and none read twice (proofs/Walks.antt).
+use frame::Answer;
+ghost use Rattle.walk.specs.Steps.{Steps};
+
+// What was read at a place, and the place after it: past an accepted frame, and where it was for a refusal.
+pub struct Step {
+    pub answer: Answer,
+    pub place: usize,
+}
+
+// Reads the frame at a place of the input, as `read_frame` reads the bytes from there on. A place past the end has nothing
+// after it.
+pub fn read_next(s: &[u8], place: usize, samples: &mut [i32]) -> Step
+    ensures { λ r. ⌜ Steps (now (s .entry)) place (now (samples .entry)) r (now (samples .exit)) ⌝ }
+{
+    let start = number::lesser(place, s.len());
+    let answer = frame::read_frame(&s[start..], samples);
+    match answer {
+        Answer::Frame(f) => Step {
+            answer,
+            place: place + f.consumed,
+        },
+        Answer::Refused(_) => Step { answer, place },
+    }
+}
