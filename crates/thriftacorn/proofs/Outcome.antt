@@ -1,11 +1,14 @@
 -- Any two outcomes that meet an exported function's contract are equal: the number, and what is left behind each reference.
 -- Assumes nothing.
-use mathlib.Core.Path.{_≡_, refl, ap}
+use Prim.Native.Nat.{ℕ, _+_}
+use native.Mathlib.Omega.{arith}
+use mathlib.Core.Path.{_≡_, refl, ap, ap₂}
 use Rattle.reading.proofs.Outcome.{OneOutcome, one}
 use Rattle.rfc9639.specs.Read.{Outcome}
 use Rattle.rfc9639.specs.Write.{Written}
 use Rattle.block.specs.Reports.{ChannelReport, SampleReport, PairReport}
 use Rattle.thriftacorn.proofs.read.thriftacorn_read_frame_v1 as read-frame
+use Rattle.thriftacorn.proofs.read.thriftacorn_read_next_v1 as read-next
 use Rattle.thriftacorn.proofs.write.thriftacorn_write_frame_v1 as write-frame
 use Rattle.thriftacorn.proofs.write.thriftacorn_longest_v1 as longest
 use Rattle.thriftacorn.proofs.samples.thriftacorn_channel_v1 as channel
@@ -16,6 +19,15 @@ pub read-frame-v1-one : OneOutcome read-frame.ended read-frame.Reads.Learnt
 read-frame-v1-one κs args r r′ left left′ p q =
     let e : _≡_ {A = Outcome} _ _ = one p q in
     (ap (λ (o : Outcome). o .report .number) e, ap (λ (o : Outcome). (tt, (o .buffer, (o .report .consumed, (o .report .first, (o .report .channels, (o .report .bits, (o .report .size, tt)))))))) e)
+
+moved-one : (place : ℕ) {next next′ n n′ : ℕ} → next ≡ place + n → next′ ≡ place + n′ → n ≡ n′ → next ≡ next′
+moved-one place p q e = omega arith
+
+pub read-next-v1-one : OneOutcome read-next.ended read-next.Reads.Learnt
+read-next-v1-one κs args r r′ left left′ p q =
+    let e : _≡_ {A = Outcome} _ _ = one (p .answer) (q .answer) in
+    let m = moved-one _ (p .moved) (q .moved) (ap (λ (o : Outcome). o .report .consumed) e) in
+    (ap (λ (o : Outcome). o .report .number) e, ap₂ (λ (n : ℕ) (o : Outcome). (tt, (n, (o .buffer, (o .report .consumed, (o .report .first, (o .report .channels, (o .report .bits, (o .report .size, tt))))))))) m e)
 
 pub write-frame-v1-one : OneOutcome write-frame.ended write-frame.Reads.Learnt
 write-frame-v1-one κs args r r′ left left′ p q =

@@ -1,5 +1,5 @@
 -- An answer that was told, as the outcome of the definition. Assumes nothing.
-use Prim.Native.Nat.{ℕ}
+use Prim.Native.Nat.{ℕ, _+_}
 use mathlib.Core.Path.{_≡_, ap, ap₂, sym, _∙_}
 use mathlib.Core.List.{List}
 use lib.IntN.{ℤ}
@@ -7,12 +7,20 @@ use Rattle.rfc9639.specs.Read.{Report, Outcome}
 use Rattle.rfc9639.specs.Write.{Written}
 use Rattle.frame.specs.declared.Answer.{Answer}
 use Rattle.frame.specs.Reads.{reportOf, Reads}
+use Rattle.walk.specs.declared.Step.{Step}
+use Rattle.walk.specs.Steps.{Steps}
 use Rattle.writer.specs.declared.Answer as w
 use Rattle.writer.specs.Outcomes.{outcome}
+use Rattle.thriftacorn.specs.Exports.{ReadNextV1}
 
-pub told : {o : Outcome} {r : Answer} {left : List ℤ} → Reads o r left → (q : Answer) → r ≡ q
-    → _≡_ {A = Outcome} (record { report = reportOf q; buffer = left }) o
-told {o} {r} {left} h q e = ap₂ (λ (x : Report) (y : List ℤ). record { report = x; buffer = y }) (ap reportOf (sym e) ∙ h .report) (h .samples)
+pub told : {o : Outcome} {r : Answer} {left : List ℤ} → Reads o r left → {q : Report} → q ≡ reportOf r
+    → _≡_ {A = Outcome} (record { report = q; buffer = left }) o
+told h e = ap₂ (λ (x : Report) (y : List ℤ). record { report = x; buffer = y }) (e ∙ h .report) (h .samples)
+
+pub stepped : {bytes : List ℕ} {place : ℕ} {samples : List ℤ} {r : Step} {left : List ℤ} → Steps bytes place samples r left → {q : Report} → q ≡ reportOf (r .answer)
+    → ReadNextV1 bytes place samples (q .number) (r .place) (q .consumed) (q .first) (q .channels) (q .bits) (q .size) left
+stepped {place = place} h e =
+    let t = told (h .answer) e in record { answer = t; moved = h .next ∙ ap (λ (o : Outcome). place + o .report .consumed) (sym t) }
 
 pub written : {o : Written} {r : w.Answer} (left : List ℕ) → outcome r left ≡ o → (q : w.Answer) → r ≡ q → outcome q left ≡ o
 written left h q e = ap (λ (x : w.Answer). outcome x left) (sym e) ∙ h

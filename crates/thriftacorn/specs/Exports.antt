@@ -1,9 +1,10 @@
 -- What each exported function promises: the number that it returns and what it leaves behind each reference are those of the
 -- definition. Each predicate has the name of its function: first the arguments, then what comes back.
-use Prim.Native.Nat.{ℕ}
+use Prim.Native.Nat.{ℕ, _+_}
 use mathlib.Core.Path.{_≡_}
 use mathlib.Core.List.{List}
 use lib.IntN.{ℤ}
+use lib.ListN.{drop}
 use Rattle.rfc9639.specs.Read.{Outcome, read}
 use Rattle.rfc9639.specs.Write.{Written, write}
 use Rattle.bound.specs.Longest.{longestOf}
@@ -18,6 +19,11 @@ ReadFrameV1 bytes samples number consumed first channels bits size left =
       buffer = left;
     })
     (read bytes samples)
+
+-- the bytes from the place on are read, and the place moves by those that the answer counts, of which a refusal counts none
+pub record ReadNextV1 (bytes : List ℕ) (place : ℕ) (samples : List ℤ) (number next consumed first channels bits size : ℕ) (left : List ℤ) : Type 0 where
+  pub answer : ReadFrameV1 (drop place bytes) samples number consumed first channels bits size left
+  pub moved : next ≡ place + consumed
 
 abbrev pub WriteFrameV1 : ℕ → ℕ → ℕ → ℕ → ℕ → List ℤ → List ℕ → ℕ → ℕ → List ℕ → Type 0
 WriteFrameV1 channels bits blocking number size samples out refusal length left =

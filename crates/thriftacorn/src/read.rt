@@ -1,5 +1,38 @@
-// Reading, for other languages.
-ghost use Rattle.thriftacorn.specs.Exports.{ReadFrameV1};
+// Reading, for other languages: the frame that starts the bytes, or the one at a place, which moves past it.
+use frame::Answer;
+ghost use Rattle.thriftacorn.specs.Exports.{ReadFrameV1, ReadNextV1};
+ghost use Rattle.thriftacorn.specs.Private.{Told};
+
+// What an answer reports, into the references.
+fn tell(
+    answer: Answer,
+    consumed: &mut usize,
+    first: &mut u64,
+    channels: &mut usize,
+    bits: &mut u32,
+    size: &mut usize,
+) -> u8
+    ensures { λ r. ⌜ Told answer r (now (consumed .exit)) (now (first .exit)) (now (channels .exit)) (now (bits .exit)) (now (size .exit)) ⌝ }
+{
+    match answer {
+        Answer::Frame(f) => {
+            *consumed = f.consumed;
+            *first = f.first;
+            *channels = f.channels;
+            *bits = f.bits;
+            *size = f.size;
+            0
+        }
+        Answer::Refused(e) => {
+            *consumed = 0;
+            *first = 0;
+            *channels = 0;
+            *bits = 0;
+            *size = 0;
+            error::number_of(e)
+        }
+    }
+}
 
 // Reads the frame that starts the bytes.
 #[no_mangle]
@@ -16,22 +49,26 @@ pub extern "C" fn thriftacorn_read_frame_v1(
         (now (channels .exit)) (now (bits .exit)) (now (size .exit)) (now (samples .exit)) ⌝ }
 {
     let answer = frame::read_frame(bytes, samples);
-    match answer {
-        frame::Answer::Frame(f) => {
-            *consumed = f.consumed;
-            *first = f.first;
-            *channels = f.channels;
-            *bits = f.bits;
-            *size = f.size;
-            0
-        }
-        frame::Answer::Refused(e) => {
-            *consumed = 0;
-            *first = 0;
-            *channels = 0;
-            *bits = 0;
-            *size = 0;
-            error::number_of(e)
-        }
-    }
+    tell(answer, consumed, first, channels, bits, size)
+}
+
+// Reads the frame at a place of the bytes, and moves the place past it. A refusal leaves the place.
+#[no_mangle]
+pub extern "C" fn thriftacorn_read_next_v1(
+    bytes: &[u8],
+    place: &mut usize,
+    samples: &mut [i32],
+    consumed: &mut usize,
+    first: &mut u64,
+    channels: &mut usize,
+    bits: &mut u32,
+    size: &mut usize,
+) -> u8
+    ensures { λ r. ⌜ ReadNextV1 (now (bytes .entry)) (now (place .entry)) (now (samples .entry)) r (now (place .exit)) (now (consumed .exit))
+        (now (first .exit)) (now (channels .exit)) (now (bits .exit)) (now (size .exit)) (now (samples .exit)) ⌝ }
+{
+    let step = walk::read_next(bytes, *place, samples);
+    *place = step.place;
+    let next = step.answer;
+    tell(next, consumed, first, channels, bits, size)
 }

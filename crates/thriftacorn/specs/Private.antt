@@ -1,0 +1,11 @@
+-- What an answer reports: only the contract of a private function names it, so nobody has to believe it.
+use Prim.Native.Nat.{ℕ}
+use mathlib.Core.Path.{_≡_}
+use Rattle.rfc9639.specs.Read.{Report}
+use Rattle.frame.specs.declared.Answer.{Answer}
+use Rattle.frame.specs.Reads.{reportOf}
+
+-- the number and the values that an answer reports
+abbrev pub Told : Answer → ℕ → ℕ → ℕ → ℕ → ℕ → ℕ → Type 0
+Told answer number consumed first channels bits size =
+    _≡_ {A = Report} (record { number = number; consumed = consumed; first = first; channels = channels; bits = bits; size = size }) (reportOf answer)
