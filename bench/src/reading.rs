@@ -15,8 +15,9 @@ use thriftacorn::{read_frame, ROOM};
 const RATE: usize = 48000;
 const CHANNELS: usize = 2;
 const BITS: u32 = 24;
-/// How often each frame is read by each reader; the least of its times counts.
+/// How many passes there are over all inputs, at least, and for how long, at least, they go on.
 const PASSES: usize = 12;
+const WHILE: Duration = Duration::from_secs(60);
 
 /// A reader with its buffer.
 trait Reader {
@@ -85,48 +86,61 @@ fn walk(bytes: &[u8], mut reader: impl Reader, mut with: impl FnMut(&[i32], Rang
     place
 }
 
-/// What both readers needed for the same bytes.
-struct Times {
-    bytes: usize,
+/// An input, with the least time that each reader took for each of its frames.
+struct Input<'a> {
+    name: String,
+    bytes: &'a [u8],
     samples: usize,
-    ours: Duration,
-    claxon: Duration,
+    /// Where each frame starts, and its times: ours, claxon's.
+    frames: Vec<(usize, [Duration; 2])>,
 }
 
-impl Times {
-    fn ratio(&self) -> f64 {
-        self.ours.as_secs_f64() / self.claxon.as_secs_f64()
+impl<'a> Input<'a> {
+    /// Both readers must read all of these bytes, and the same samples.
+    fn new(name: String, bytes: &'a [u8]) -> Input<'a> {
+        let (mut frames, mut samples, mut claxon) = (Vec::new(), 0, Claxon::new());
+        let end = walk(bytes, Ours::new(), |block, range| {
+            let length = claxon.read(&bytes[range.start..]);
+            assert!(length == Some(range.len()) && claxon.samples() == block, "the readers part at {}", range.start);
+            frames.push((range.start, [Duration::MAX; 2]));
+            samples += block.len();
+        });
+        assert_eq!(end, bytes.len(), "a frame is refused");
+        Input { name, bytes, samples, frames }
     }
 
-    /// A row of a table.
-    fn print(&self, name: &str) {
-        let byte = |time: Duration| time.as_secs_f64() * 1e9 / self.bytes as f64;
-        let second = |time: Duration| self.samples as f64 / time.as_secs_f64() / 1e6;
-        print!("| {name} | {} | {} ", self.bytes, self.samples);
-        print!("| {:.2} | {:.2} ", byte(self.ours), byte(self.claxon));
-        print!("| {:.1} | {:.1} ", second(self.ours), second(self.claxon));
-        println!("| {:.2} |", self.ratio());
+    /// Both readers by turns on each frame. The one that comes second finds the bytes in the cache, so they change
+    /// places from pass to pass.
+    fn pass(&mut self, ours: &mut Ours, claxon: &mut Claxon, ours_first: bool) {
+        for (start, [best, other]) in &mut self.frames {
+            let rest = &self.bytes[*start..];
+            if ours_first {
+                time(ours, rest, best);
+                time(claxon, rest, other);
+            } else {
+                time(claxon, rest, other);
+                time(ours, rest, best);
+            }
+        }
+    }
+
+    /// A row of a table: the frames' least times, added up.
+    fn print(&self) {
+        let sum = |who: usize| self.frames.iter().map(|(_, times)| times[who]).sum::<Duration>().as_secs_f64();
+        let (ours, claxon) = (sum(0), sum(1));
+        let byte = |time: f64| time * 1e9 / self.bytes.len() as f64;
+        let second = |time: f64| self.samples as f64 / time / 1e6;
+        print!("| {} | {} | {} ", self.name, self.bytes.len(), self.samples);
+        print!("| {:.2} | {:.2} ", byte(ours), byte(claxon));
+        print!("| {:.1} | {:.1} ", second(ours), second(claxon));
+        println!("| {:.2} |", ours / claxon);
     }
 }
 
 const HEAD: &str = "| input | bytes | samples | ours, ns a byte | claxon, ns a byte \
 | ours, million samples a second | claxon | ours / claxon |\n|---|---|---|---|---|---|---|---|";
 
-/// Where the frames start, and how many samples they have; both readers must read all of these bytes, and the same
-/// samples.
-fn agree(bytes: &[u8]) -> (Vec<usize>, usize) {
-    let (mut starts, mut samples, mut claxon) = (Vec::new(), 0, Claxon::new());
-    let end = walk(bytes, Ours::new(), |block, range| {
-        let length = claxon.read(&bytes[range.start..]);
-        assert!(length == Some(range.len()) && claxon.samples() == block, "the readers part at {}", range.start);
-        starts.push(range.start);
-        samples += block.len();
-    });
-    assert_eq!(end, bytes.len(), "a frame is refused");
-    (starts, samples)
-}
-
-/// How long it takes to read the frame that starts these bytes, where that is less than before.
+/// Reads the frame that starts these bytes, and keeps the time where that is less than before.
 fn time(reader: &mut impl Reader, bytes: &[u8], least: &mut Duration) {
     let start = Instant::now();
     let length = reader.read(bytes);
@@ -134,27 +148,17 @@ fn time(reader: &mut impl Reader, bytes: &[u8], least: &mut Duration) {
     assert!(length.is_some());
 }
 
-/// Both readers by turns on each frame, in passes over all frames; the least times of each frame are added up. What
-/// else the machine does falls on some frames of a pass, and on others of the next.
-fn measure(bytes: &[u8]) -> Times {
-    let (starts, samples) = agree(bytes);
-    let mut least = vec![[Duration::MAX; 2]; starts.len()];
+/// Passes over all inputs. What else the machine does falls on some frames of a pass, and on others of the next; and a
+/// time in which it does much falls on a few passes of each input, and not on all of one.
+fn measure(tables: &mut [(String, Vec<Input>)]) {
     let (mut ours, mut claxon) = (Ours::new(), Claxon::new());
-    for pass in 0..PASSES {
-        for (start, [best, other]) in starts.iter().zip(&mut least) {
-            let rest = &bytes[*start..];
-            // The one that comes second finds the bytes in the cache, so they change places.
-            if pass % 2 == 0 {
-                time(&mut ours, rest, best);
-                time(&mut claxon, rest, other);
-            } else {
-                time(&mut claxon, rest, other);
-                time(&mut ours, rest, best);
-            }
+    let (begin, mut pass) = (Instant::now(), 0);
+    while pass < PASSES || begin.elapsed() < WHILE {
+        for input in tables.iter_mut().flat_map(|(_, inputs)| inputs) {
+            input.pass(&mut ours, &mut claxon, pass % 2 == 0);
         }
+        pass += 1;
     }
-    let sum = |who: usize| least.iter().map(|times| times[who]).sum();
-    Times { bytes: bytes.len(), samples, ours: sum(0), claxon: sum(1) }
 }
 
 /// The length of the frames that lie within so many bytes.
@@ -176,22 +180,28 @@ fn stream(folder: &Path, sound: &[i32], words: &[&str]) -> Vec<u8> {
 
 fn tables(folder: &Path, seconds: usize) {
     let sound = interleaved(&mut Draw::new(9639, "bench"), RATE * seconds, CHANNELS, BITS, Kind::Sines);
-    let five = stream(folder, &sound, &["-5"]);
-    println!(
-        "24-bit stereo, {seconds} seconds at {RATE} Hz; of each frame the least time of {PASSES} passes:\n\n{HEAD}"
-    );
-    measure(&five).print("flac -5");
-    for words in [&["-8"][..], &["-0"], &["--lax", "-l", "32"]] {
-        measure(&stream(folder, &sound, words)).print(&format!("flac {}", words.join(" ")));
-    }
-    println!("\nWith the length of the input (flac -5):\n\n{HEAD}");
-    for parts in [1, 2, 4, 8] {
-        measure(&five[..frames_within(&five, five.len() * parts / 8)]).print(&format!("{parts} of 8"));
-    }
-    println!("\nWith the size of the blocks (flac -5, a quarter of the sound):\n\n{HEAD}");
-    for size in ["4096", "8192", "16384", "32768"] {
-        let bytes = stream(folder, &sound[..sound.len() / 4], &["--lax", "-5", "-b", size]);
-        measure(&bytes).print(&format!("blocks of {size}"));
+    let levels = [&["-5"][..], &["-8"], &["-0"], &["--lax", "-l", "32"]]
+        .map(|words| (format!("flac {}", words.join(" ")), stream(folder, &sound, words)));
+    let sizes = ["4096", "8192", "16384", "32768"]
+        .map(|size| (size, stream(folder, &sound[..sound.len() / 4], &["--lax", "-5", "-b", size])));
+    let five = &levels[0].1;
+    let part = |parts: usize| Input::new(format!("{parts} of 8"), &five[..frames_within(five, five.len() * parts / 8)]);
+    let mut tables = [
+        (
+            format!("24-bit stereo, {seconds} seconds at {RATE} Hz; of each frame the least of {PASSES} times or more"),
+            levels.iter().map(|(name, bytes)| Input::new(name.clone(), bytes)).collect::<Vec<_>>(),
+        ),
+        ("With the length of the input (flac -5)".into(), [1, 2, 4, 8].map(part).into()),
+        (
+            "With the size of the blocks (flac -5, a quarter of the sound)".into(),
+            sizes.iter().map(|(size, bytes)| Input::new(format!("blocks of {size}"), bytes)).collect(),
+        ),
+    ];
+    measure(&mut tables);
+    for (title, inputs) in tables {
+        println!("{title}:\n\n{HEAD}");
+        inputs.iter().for_each(Input::print);
+        println!();
     }
 }
 
