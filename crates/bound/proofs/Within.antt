@@ -1,5 +1,5 @@
--- What `longestOf` says: no frame is longer, so an output of that length is never refused 13; and where it is 0, no frame is
--- written. Assumes nothing.
+-- What `longestOf` says: no frame is longer, so an output of that length is never refused 13; and where it is 0, no
+-- frame is written. Assumes nothing.
 use Prim.Native.Nat.{ℕ, _*_, _≤_, _<_}
 use native.Mathlib.Omega.{arith}
 use mathlib.Core.Path.{_≡_, refl, ap, sym, _∙_, subst}

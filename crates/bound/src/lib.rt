@@ -1,5 +1,5 @@
-// What bounds a frame that is written: which settings it can have, and how long it is at most with them (document 01, "The
-// added writer"). Each function answers on every argument by the definition.
+// What bounds a frame that is written: which settings it can have, and how long it is at most with them (document 01,
+// "The added writer"). Each function answers on every argument by the definition.
 use rfc9639::FrameSetting;
 ghost use mathlib.Core.Path.{_≡_};
 ghost use Prim.Native.Nat.{_^_, _≤_};
@@ -82,8 +82,8 @@ fn most_bits(channels: u32, bits: u32, size: usize) -> usize
     if channels < 8 { all } else { all + size }
 }
 
-// The length that no frame with these settings exceeds, in bytes; 0 where no frame is written with them. An output of that
-// length is never refused 13 (proofs/Within.antt).
+// The length that no frame with these settings exceeds, in bytes; 0 where no frame is written with them. An output of
+// that length is never refused 13 (proofs/Within.antt).
 pub fn longest(channels: u32, bits: u32, blocking: u32, number: u64, size: usize) -> usize
     ensures { λ r. ⌜ r ≡ longestOf (record { channels = channels; bits = bits; blocking = blocking; number = number; size = size }) ⌝ }
 {

@@ -1,5 +1,6 @@
-// The functions of `block` on claxon's test data, and each of their refusals. A line has the block as channels x size,
-// a channel and an index; then what all three answer: the channel's range and the samples there, the sample and the pair.
+// The functions of `block` on claxon's test data, and each of their refusals. A line has the block as channels x
+// size, a channel and an index; then what all three answer: the channel's range and the samples there, the sample and
+// the pair.
 use crate::show::equals;
 use crate::show::mark;
 use crate::show::put;

@@ -1,5 +1,5 @@
--- What each exported function promises: the number that it returns and what it leaves behind each reference are those of the
--- definition. Each predicate has the name of its function: first the arguments, then what comes back.
+-- What each exported function promises: the number that it returns and what it leaves behind each reference are those
+-- of the definition. Each predicate has the name of its function: first the arguments, then what comes back.
 use Prim.Native.Nat.{ℕ, _+_}
 use mathlib.Core.Path.{_≡_}
 use mathlib.Core.List.{List}
@@ -20,7 +20,8 @@ ReadFrameV1 bytes samples number consumed first channels bits size left =
     })
     (read bytes samples)
 
--- the bytes from the place on are read, and the place moves by those that the answer counts, of which a refusal counts none
+-- the bytes from the place on are read, and the place moves by those that the answer counts, of which a refusal
+-- counts none
 pub record ReadNextV1 (bytes : List ℕ) (place : ℕ) (samples : List ℤ) (number next consumed first channels bits size : ℕ) (left : List ℤ) : Type 0 where
   pub answer : ReadFrameV1 (drop place bytes) samples number consumed first channels bits size left
   pub moved : next ≡ place + consumed
