@@ -41,7 +41,6 @@ model=$(sed -n 's/^model name[[:space:]]*: //p' /proc/cpuinfo | head -n 1)
 echo "$(date -u +%Y-%m-%d), $(uname -m), ${model:-processor unknown}, $(rustc --version | cut -d ' ' -f 1-2), $(flac --version)"
 echo
 "$out/reading" tables "$out" "$seconds" || exit 1
-echo
 counter=''
 if perf stat -e instructions:u true 2>&1 | grep -q '[0-9] .*instructions'; then
     counter=perf

@@ -6,119 +6,170 @@ use common::flac;
 use common::signal::{interleaved, Kind};
 use std::hint::black_box;
 use std::io::Cursor;
+use std::ops::Range;
 use std::path::Path;
 use std::time::{Duration, Instant};
-use thriftacorn::Frames;
+use thriftacorn::{read_frame, ROOM};
 
 /// Samples a second of sound, in each of two channels of 24 bits.
 const RATE: usize = 48000;
 const CHANNELS: usize = 2;
 const BITS: u32 = 24;
-const ROOM: usize = 8 * 65535;
-/// How often each reader is run, by turns; the best of its times counts.
-const TURNS: usize = 7;
-const MEGABYTE: usize = 1 << 20;
+/// How many passes there are over all inputs, at least, and for how long, at least, they go on.
+const PASSES: usize = 12;
+const WHILE: Duration = Duration::from_secs(60);
 
-/// Reads frame after frame, and hands each block's samples on. Returns how many bytes were read.
-fn ours(bytes: &[u8], samples: &mut [i32], mut with: impl FnMut(&[i32])) -> usize {
-    let mut frames = Frames::new(bytes);
-    while let Ok(frame) = frames.read(samples) {
-        with(&samples[..frame.samples()]);
-    }
-    frames.place()
+/// A reader with its buffer.
+trait Reader {
+    /// Reads the frame that starts these bytes, and hands its samples to black_box, so that nothing of the reading is
+    /// left out. Returns its length; `None` where there is no frame.
+    fn read(&mut self, bytes: &[u8]) -> Option<usize>;
+    /// The samples of the frame read last.
+    fn samples(&self) -> &[i32];
 }
 
-/// The same by claxon.
-fn claxon(bytes: &[u8], mut samples: Vec<i32>, mut with: impl FnMut(&[i32])) -> usize {
-    let mut reader = FrameReader::new(Cursor::new(bytes));
-    while let Ok(Some(block)) = reader.read_next_or_eof(samples) {
-        samples = block.into_buffer();
-        with(&samples);
-    }
-    reader.into_inner().position() as usize
+struct Ours {
+    buffer: Vec<i32>,
+    used: usize,
 }
 
-/// What both readers needed for the same bytes.
-struct Times {
-    bytes: usize,
+impl Ours {
+    fn new() -> Ours {
+        Ours { buffer: vec![0; ROOM], used: 0 }
+    }
+}
+
+impl Reader for Ours {
+    fn read(&mut self, bytes: &[u8]) -> Option<usize> {
+        let frame = read_frame(bytes, &mut self.buffer).ok()?;
+        self.used = frame.samples();
+        black_box(self.samples());
+        Some(frame.consumed)
+    }
+
+    fn samples(&self) -> &[i32] {
+        &self.buffer[..self.used]
+    }
+}
+
+struct Claxon {
+    buffer: Vec<i32>,
+}
+
+impl Claxon {
+    fn new() -> Claxon {
+        Claxon { buffer: vec![0; ROOM] }
+    }
+}
+
+impl Reader for Claxon {
+    fn read(&mut self, bytes: &[u8]) -> Option<usize> {
+        let mut reader = FrameReader::new(Cursor::new(bytes));
+        let block = reader.read_next_or_eof(std::mem::take(&mut self.buffer)).ok()??;
+        self.buffer = block.into_buffer();
+        black_box(self.samples());
+        Some(reader.into_inner().position() as usize)
+    }
+
+    fn samples(&self) -> &[i32] {
+        &self.buffer
+    }
+}
+
+/// Hands each frame's samples and its bytes' range on, in order. Returns how many bytes were read.
+fn walk(bytes: &[u8], mut reader: impl Reader, mut with: impl FnMut(&[i32], Range<usize>)) -> usize {
+    let mut place = 0;
+    while let Some(length) = reader.read(&bytes[place..]) {
+        with(reader.samples(), place..place + length);
+        place += length;
+    }
+    place
+}
+
+/// An input, with the least time that each reader took for each of its frames.
+struct Input<'a> {
+    name: String,
+    bytes: &'a [u8],
     samples: usize,
-    ours: Duration,
-    claxon: Duration,
+    /// Where each frame starts, and its times: ours, claxon's.
+    frames: Vec<(usize, [Duration; 2])>,
 }
 
-impl Times {
-    fn ratio(&self) -> f64 {
-        self.ours.as_secs_f64() / self.claxon.as_secs_f64()
+impl<'a> Input<'a> {
+    /// Both readers must read all of these bytes, and the same samples.
+    fn new(name: String, bytes: &'a [u8]) -> Input<'a> {
+        let (mut frames, mut samples, mut claxon) = (Vec::new(), 0, Claxon::new());
+        let end = walk(bytes, Ours::new(), |block, range| {
+            let length = claxon.read(&bytes[range.start..]);
+            assert!(length == Some(range.len()) && claxon.samples() == block, "the readers part at {}", range.start);
+            frames.push((range.start, [Duration::MAX; 2]));
+            samples += block.len();
+        });
+        assert_eq!(end, bytes.len(), "a frame is refused");
+        Input { name, bytes, samples, frames }
     }
 
-    /// A row of a table.
-    fn print(&self, name: &str) {
-        let byte = |time: Duration| time.as_secs_f64() * 1e9 / self.bytes as f64;
-        let second = |time: Duration| self.samples as f64 / time.as_secs_f64() / 1e6;
-        print!("| {name} | {} | {} ", self.bytes, self.samples);
-        print!("| {:.2} | {:.2} ", byte(self.ours), byte(self.claxon));
-        print!("| {:.1} | {:.1} ", second(self.ours), second(self.claxon));
-        println!("| {:.2} |", self.ratio());
+    /// Both readers by turns on each frame. The one that comes second finds the bytes in the cache, so they change
+    /// places from pass to pass.
+    fn pass(&mut self, ours: &mut Ours, claxon: &mut Claxon, ours_first: bool) {
+        for (start, [best, other]) in &mut self.frames {
+            let rest = &self.bytes[*start..];
+            if ours_first {
+                time(ours, rest, best);
+                time(claxon, rest, other);
+            } else {
+                time(claxon, rest, other);
+                time(ours, rest, best);
+            }
+        }
+    }
+
+    /// A row of a table: the frames' least times, added up.
+    fn print(&self) {
+        let sum = |who: usize| self.frames.iter().map(|(_, times)| times[who]).sum::<Duration>().as_secs_f64();
+        let (ours, claxon) = (sum(0), sum(1));
+        let byte = |time: f64| time * 1e9 / self.bytes.len() as f64;
+        let second = |time: f64| self.samples as f64 / time / 1e6;
+        print!("| {} | {} | {} ", self.name, self.bytes.len(), self.samples);
+        print!("| {:.2} | {:.2} ", byte(ours), byte(claxon));
+        print!("| {:.1} | {:.1} ", second(ours), second(claxon));
+        println!("| {:.2} |", ours / claxon);
     }
 }
 
 const HEAD: &str = "| input | bytes | samples | ours, ns a byte | claxon, ns a byte \
 | ours, million samples a second | claxon | ours / claxon |\n|---|---|---|---|---|---|---|---|";
 
-/// Stands for the samples' use, so that nothing of the reading is left out.
-fn keep(block: &[i32]) {
-    black_box(block);
-}
-
-fn timed(work: impl FnOnce() -> usize) -> Duration {
+/// Reads the frame that starts these bytes, and keeps the time where that is less than before.
+fn time(reader: &mut impl Reader, bytes: &[u8], least: &mut Duration) {
     let start = Instant::now();
-    black_box(work());
-    start.elapsed()
+    let length = reader.read(bytes);
+    *least = start.elapsed().min(*least);
+    assert!(length.is_some());
 }
 
-/// That both readers read all of these bytes, and the same samples. Returns how many.
-fn agree(bytes: &[u8]) -> usize {
-    let tally = |sum: i64, x: &i32| sum.wrapping_mul(31).wrapping_add(i64::from(*x));
-    let (mut count, mut sum, mut other) = (0, 0, 0);
-    let end = ours(bytes, &mut vec![0; ROOM], |block| {
-        count += block.len();
-        sum = block.iter().fold(sum, tally);
-    });
-    let same = claxon(bytes, Vec::new(), |block| other = block.iter().fold(other, tally));
-    assert!(end == bytes.len() && same == end && sum == other, "the readers part, or stop before the end");
-    count
-}
-
-/// Both readers by turns, on one piece of the bytes after the other: the best times of each piece are added up.
-fn measure(bytes: &[u8], piece: usize) -> Times {
-    let mut times = Times { bytes: bytes.len(), samples: agree(bytes), ours: Duration::ZERO, claxon: Duration::ZERO };
-    let mut buffer = vec![1; ROOM];
-    let mut rest = bytes;
-    while !rest.is_empty() {
-        let (piece, behind) = rest.split_at(frames_within(rest, piece));
-        let (mut best, mut other) = (Duration::MAX, Duration::MAX);
-        for _ in 0..TURNS {
-            best = best.min(timed(|| ours(piece, &mut buffer, keep)));
-            // claxon drops its buffer at the end of the input.
-            let room = vec![1; ROOM];
-            other = other.min(timed(|| claxon(piece, room, keep)));
+/// Passes over all inputs. What else the machine does falls on some frames of a pass, and on others of the next; and a
+/// time in which it does much falls on a few passes of each input, and not on all of one.
+fn measure(tables: &mut [(String, Vec<Input>)]) {
+    let (mut ours, mut claxon) = (Ours::new(), Claxon::new());
+    let (begin, mut pass) = (Instant::now(), 0);
+    while pass < PASSES || begin.elapsed() < WHILE {
+        for input in tables.iter_mut().flat_map(|(_, inputs)| inputs) {
+            input.pass(&mut ours, &mut claxon, pass % 2 == 0);
         }
-        times.ours += best;
-        times.claxon += other;
-        rest = behind;
+        pass += 1;
     }
-    times
 }
 
-/// The length of the frames that lie within so many bytes, at least one.
+/// The length of the frames that lie within so many bytes.
 fn frames_within(bytes: &[u8], length: usize) -> usize {
-    let mut frames = Frames::new(bytes);
-    let mut samples = vec![0; ROOM];
-    let mut end = 0;
-    while frames.read(&mut samples).is_ok() && (end == 0 || frames.place() <= length) {
-        end = frames.place();
-    }
-    end
+    let mut within = 0;
+    walk(bytes, Ours::new(), |_, range| {
+        if range.end <= length {
+            within = range.end;
+        }
+    });
+    within
 }
 
 /// The frames of this sound, encoded with these words.
@@ -129,23 +180,28 @@ fn stream(folder: &Path, sound: &[i32], words: &[&str]) -> Vec<u8> {
 
 fn tables(folder: &Path, seconds: usize) {
     let sound = interleaved(&mut Draw::new(9639, "bench"), RATE * seconds, CHANNELS, BITS, Kind::Sines);
-    let five = stream(folder, &sound, &["-5"]);
-    println!(
-        "24-bit stereo, {seconds} seconds at {RATE} Hz; of each megabyte the best of {TURNS} runs by turns:\n\n{HEAD}"
-    );
-    measure(&five, MEGABYTE).print("flac -5");
-    for words in [&["-8"][..], &["-0"], &["--lax", "-l", "32"]] {
-        measure(&stream(folder, &sound, words), MEGABYTE).print(&format!("flac {}", words.join(" ")));
-    }
-    println!("\nWith the length of the input (flac -5), the best of {TURNS} runs over all of it:\n\n{HEAD}");
-    for parts in [1, 2, 4, 8] {
-        let part = &five[..frames_within(&five, five.len() * parts / 8)];
-        measure(part, part.len()).print(&format!("{parts} of 8"));
-    }
-    println!("\nWith the size of the blocks (flac -5, a quarter of the sound):\n\n{HEAD}");
-    for size in ["4096", "8192", "16384", "32768"] {
-        let bytes = stream(folder, &sound[..sound.len() / 4], &["--lax", "-5", "-b", size]);
-        measure(&bytes, MEGABYTE).print(&format!("blocks of {size}"));
+    let levels = [&["-5"][..], &["-8"], &["-0"], &["--lax", "-l", "32"]]
+        .map(|words| (format!("flac {}", words.join(" ")), stream(folder, &sound, words)));
+    let sizes = ["4096", "8192", "16384", "32768"]
+        .map(|size| (size, stream(folder, &sound[..sound.len() / 4], &["--lax", "-5", "-b", size])));
+    let five = &levels[0].1;
+    let part = |parts: usize| Input::new(format!("{parts} of 8"), &five[..frames_within(five, five.len() * parts / 8)]);
+    let mut tables = [
+        (
+            format!("24-bit stereo, {seconds} seconds at {RATE} Hz; of each frame the least of {PASSES} times or more"),
+            levels.iter().map(|(name, bytes)| Input::new(name.clone(), bytes)).collect::<Vec<_>>(),
+        ),
+        ("With the length of the input (flac -5)".into(), [1, 2, 4, 8].map(part).into()),
+        (
+            "With the size of the blocks (flac -5, a quarter of the sound)".into(),
+            sizes.iter().map(|(size, bytes)| Input::new(format!("blocks of {size}"), bytes)).collect(),
+        ),
+    ];
+    measure(&mut tables);
+    for (title, inputs) in tables {
+        println!("{title}:\n\n{HEAD}");
+        inputs.iter().for_each(Input::print);
+        println!();
     }
 }
 
@@ -154,8 +210,8 @@ fn once(who: &str, file: &str) {
     let stream = std::fs::read(file).expect("the stream is read");
     let bytes = flac::frames_of(&stream);
     let end = match who {
-        "ours" => ours(bytes, &mut vec![0; ROOM], keep),
-        "claxon" => claxon(bytes, vec![0; ROOM], keep),
+        "ours" => walk(bytes, Ours::new(), |_, _| ()),
+        "claxon" => walk(bytes, Claxon::new(), |_, _| ()),
         _ => bytes.len(),
     };
     assert_eq!(end, bytes.len());

@@ -1,6 +1,7 @@
 #!/bin/sh
-# Runs the binding's tests and the examples in its documentation, offline: sh bindings/rust/test.sh. Where cargo or a
-# linker is not at hand a line that starts with 'not compared: ' says so, and the status is 0.
+# Runs the binding's tests and the examples in its documentation, and packs the crate, all offline:
+#     sh bindings/rust/test.sh
+# Where cargo or a linker is not at hand a line that starts with 'not compared: ' says so, and the status is 0.
 set -u
 name=bindings/rust/test.sh
 root=$(cd "$(dirname "$0")/../.." && pwd) || exit 2
@@ -15,4 +16,9 @@ fi
 . "$root/bindings/library.sh"
 export THRIFTACORN_LIB="$library"
 cd "$root/bindings/rust" || exit 2
-exec cargo test --offline --quiet
+cargo test --offline --quiet || exit 1
+cargo package --offline --allow-dirty --quiet || exit 1
+if ! cargo package --offline --allow-dirty --quiet --list | grep -qx NOTICE; then
+    echo "$name: the package has no NOTICE" >&2
+    exit 1
+fi

@@ -3,17 +3,33 @@ use claxon::frame::FrameReader;
 use claxon::Error;
 use std::io::Cursor;
 use std::panic::{catch_unwind, AssertUnwindSafe};
+pub use thriftacorn::ROOM;
 use thriftacorn::{read_frame, Frame, Refusal};
-
-/// Room for every frame: eight channels of 65535 samples.
-pub const ROOM: usize = 8 * 65535;
 
 /// What the buffer holds wherever no reader has written.
 const FILL: i32 = 0x5A5A_5A5A;
 
+/// What both readers tell of a frame.
+#[derive(Clone, Copy, Debug, PartialEq, Eq)]
+pub struct Report {
+    pub consumed: usize,
+    pub first_sample: u64,
+    pub channels: usize,
+    pub bits: u32,
+    pub block_size: usize,
+}
+
+impl From<Frame> for Report {
+    fn from(frame: Frame) -> Report {
+        let first_sample = frame.first_sample.expect("a frame tells its first sample");
+        let Frame { consumed, channels, bits, block_size, .. } = frame;
+        Report { consumed, first_sample, channels, bits, block_size }
+    }
+}
+
 #[derive(Clone, Copy, Debug, PartialEq, Eq)]
 pub enum Answer {
-    Frame(Frame),
+    Frame(Report),
     /// By number.
     Refused(u8),
     Panicked,
@@ -50,7 +66,7 @@ impl Ours {
         match read_frame(bytes, &mut self.buffer[..room]) {
             Ok(frame) => {
                 self.used = frame.samples();
-                Answer::Frame(frame)
+                Answer::Frame(frame.into())
             }
             Err(refusal) => {
                 self.used = self.buffer.iter().position(|sample| *sample != 0).unwrap_or(room);
@@ -100,7 +116,7 @@ impl<'a> Claxon<'a> {
             Ok(Ok(None)) => Answer::Refused(Refusal::NothingLeft.number()),
             Ok(Err(error)) => number_of(&error, rest),
             Ok(Ok(Some(block))) => {
-                let frame = Frame {
+                let report = Report {
                     consumed: self.cursor.position() as usize - start,
                     first_sample: block.time(),
                     channels: block.channels() as usize,
@@ -108,7 +124,7 @@ impl<'a> Claxon<'a> {
                     block_size: block.duration() as usize,
                 };
                 self.samples = block.into_buffer();
-                Answer::Frame(frame)
+                Answer::Frame(report)
             }
         }
     }

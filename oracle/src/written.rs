@@ -5,7 +5,7 @@ use common::flac;
 use common::readers::{Answer, Claxon};
 use common::signal::{interleaved, Kind};
 use std::path::{Path, PathBuf};
-use thriftacorn::{write_frame, Blocking, Settings};
+use thriftacorn::{write_frame, Blocking, WriteSettings};
 
 /// How many frames a stream has. The last is shorter where it can be.
 const FRAMES: usize = 4;
@@ -14,13 +14,13 @@ const FRAMES: usize = 4;
 const SIZES: [usize; 22] =
     [1, 2, 3, 4, 5, 15, 16, 17, 64, 192, 255, 256, 257, 576, 1000, 1152, 2304, 4096, 4608, 5000, 16384, 65535];
 
-fn stop(settings: &Settings, what: &str, who: &str) -> ! {
+fn stop(settings: &WriteSettings, what: &str, who: &str) -> ! {
     println!("{who} parts from the writer: {what}, {settings:?}");
     std::process::exit(1)
 }
 
 /// One frame of these samples, channel after channel, read by claxon.
-fn write_one(samples: &[i32], settings: &Settings) -> Vec<u8> {
+fn write_one(samples: &[i32], settings: &WriteSettings) -> Vec<u8> {
     let mut frame = vec![0; settings.longest()];
     match write_frame(samples, settings, &mut frame) {
         Ok(length) => frame.truncate(length),
@@ -42,7 +42,7 @@ fn write_one(samples: &[i32], settings: &Settings) -> Vec<u8> {
 }
 
 /// A stream header for frames of these settings: the mark and STREAMINFO (RFC 9639 section 8.2).
-fn stream_header(settings: &Settings, total: usize) -> Vec<u8> {
+fn stream_header(settings: &WriteSettings, total: usize) -> Vec<u8> {
     let (least, most) = match settings.blocking {
         Blocking::Fixed => (settings.block_size, settings.block_size),
         Blocking::Variable => (16, 65535),
@@ -59,7 +59,7 @@ fn stream_header(settings: &Settings, total: usize) -> Vec<u8> {
 
 /// A stream of some frames, and its sound. RFC 9639 lets no stream have blocks below 16 samples but the last one; `flac`
 /// takes them under variable blocking.
-fn write_stream(draw: &mut Draw, settings: &Settings) -> (Vec<u8>, Vec<i32>) {
+fn write_stream(draw: &mut Draw, settings: &WriteSettings) -> (Vec<u8>, Vec<i32>) {
     let (channels, size) = (settings.channels(), settings.block_size);
     let last = if size > 16 { draw.from(1, size as u32) as usize } else { size };
     let total = (FRAMES - 1) * size + last;
@@ -69,18 +69,20 @@ fn write_stream(draw: &mut Draw, settings: &Settings) -> (Vec<u8>, Vec<i32>) {
     for (index, part) in sound.chunks(size * channels).enumerate() {
         let block_size = part.len() / channels;
         let planar: Vec<i32> = (0..channels).flat_map(|c| part.iter().skip(c).step_by(channels).copied()).collect();
+        // A short last block of a stream with fixed blocking has the frame's number, like the others.
         let number = match settings.blocking {
             Blocking::Fixed => index,
             Blocking::Variable => index * size,
         };
-        // A short last block of a stream with fixed blocking has the frame's number, like the others.
-        stream.extend(write_one(&planar, &Settings { number: number as u64, block_size, ..*settings }));
+        let mut settings = *settings;
+        (settings.number, settings.block_size) = (number as u64, block_size);
+        stream.extend(write_one(&planar, &settings));
     }
     (stream, sound)
 }
 
 /// A stream of these settings, held against `flac` where there is a folder for its files.
-fn check(draw: &mut Draw, settings: &Settings, folder: Option<&Path>) {
+fn check(draw: &mut Draw, settings: &WriteSettings, folder: Option<&Path>) {
     let (stream, sound) = write_stream(draw, settings);
     let Some(folder) = folder else { return };
     match flac::decode(folder, &stream, settings.bits) {
@@ -97,10 +99,12 @@ fn run(folder: Option<&Path>) -> usize {
     for channel_code in 0..=10 {
         for bits in [8, 12, 16, 20, 24] {
             for block_size in SIZES {
-                let fixed = block_size >= 16 && draw.once_in(2);
-                let blocking = if fixed { Blocking::Fixed } else { Blocking::Variable };
+                let mut settings = WriteSettings::new(channel_code, bits, block_size);
+                if block_size < 16 || !draw.once_in(2) {
+                    settings.blocking = Blocking::Variable;
+                }
                 if block_size <= 5000 || draw.once_in(8) {
-                    check(&mut draw, &Settings { channel_code, bits, blocking, number: 0, block_size }, folder);
+                    check(&mut draw, &settings, folder);
                     streams += 1;
                 }
             }

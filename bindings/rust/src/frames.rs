@@ -1,7 +1,8 @@
 //! Frame after frame of one slice.
-use crate::{read_frame, Frame, Refusal};
+use crate::{library, read::reported, Frame, Refusal};
 
-/// The frames of a slice, one behind the other. Each read lends its own samples, so this is a loop and no iterator:
+/// The frames of a slice, one after the other: each starts where the one before ended, and nothing is skipped. Each
+/// read lends its own samples, so this is a loop and no iterator:
 ///
 /// ```
 /// use thriftacorn::{Frames, Refusal};
@@ -11,11 +12,45 @@ use crate::{read_frame, Frame, Refusal};
 /// let mut frames = Frames::new(&bytes);
 /// let end = loop {
 ///     match frames.read(&mut samples) {
-///         Ok(frame) => println!("sample {}: {:?}", frame.first_sample, frame.channel(&samples, 0)),
+///         Ok(frame) => println!("{} channels: {:?}", frame.channels, frame.channel(&samples, 0)),
 ///         Err(refusal) => break refusal,
 ///     }
 /// };
 /// assert_eq!((frames.place(), end), (45, Refusal::NothingLeft));
+/// ```
+///
+/// An input that comes in pieces goes through a window: what the frames took is dropped, and more is fetched where the
+/// refusal wants bytes.
+///
+/// ```
+/// use std::io::Read;
+/// use thriftacorn::{Frames, Need, Refusal, ROOM};
+///
+/// /// The number of frames before the refusal that ends the input.
+/// fn count(mut card: impl Read) -> std::io::Result<(usize, Refusal)> {
+///     let (mut window, mut samples, mut found) = (Vec::new(), vec![0; ROOM], 0);
+///     loop {
+///         let mut frames = Frames::new(&window);
+///         let refusal = loop {
+///             match frames.read(&mut samples) {
+///                 Ok(_) => found += 1,
+///                 Err(refusal) => break refusal,
+///             }
+///         };
+///         window.drain(..frames.place());
+///         let more = match refusal.needs() {
+///             Need::Wait => card.by_ref().take(65536).read_to_end(&mut window)?,
+///             Need::Room | Need::Final => 0,
+///         };
+///         if more == 0 {
+///             return Ok((found, refusal));
+///         }
+///     }
+/// }
+/// # let one = [0xFF, 0xF8, 0x69, 0x18, 0, 0, 0xBF, 0x03, 0x58, 0xFD, 0x03, 0x12, 0x8B, 0xAA, 0x9A];
+/// # let card = vec![one; 10_000].concat();
+/// assert_eq!(count(&card[..]).unwrap(), (10_000, Refusal::NothingLeft));
+/// assert_eq!(count(&card[..card.len() - 1]).unwrap(), (9_999, Refusal::CutShort));
 /// ```
 #[derive(Clone, Debug)]
 pub struct Frames<'a> {
@@ -34,10 +69,24 @@ impl<'a> Frames<'a> {
         self.place
     }
 
-    /// Reads the next frame, as [`read_frame`] does. A refusal moves nothing: the next read starts at the same place.
+    /// Reads the next frame, as [`read_frame`](crate::read_frame) does. A refusal moves nothing: the next read starts
+    /// at the same place.
     pub fn read(&mut self, samples: &mut [i32]) -> Result<Frame, Refusal> {
-        let frame = read_frame(&self.bytes[self.place..], samples)?;
-        self.place += frame.consumed;
-        Ok(frame)
+        let Frames { bytes, place } = self;
+        // SAFETY: as `library` wants it; the five places are parts of `report`, and `place` is no part of the bytes.
+        reported(|report| unsafe {
+            library::thriftacorn_read_next_v1(
+                bytes.as_ptr(),
+                bytes.len(),
+                place,
+                samples.as_mut_ptr(),
+                samples.len(),
+                &mut report.consumed,
+                &mut report.first,
+                &mut report.channels,
+                &mut report.bits,
+                &mut report.size,
+            )
+        })
     }
 }

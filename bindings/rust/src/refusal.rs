@@ -1,8 +1,10 @@
-//! Why a frame was not read or not written.
+//! Why a frame was not read or not written, and what that asks of the caller.
 use std::{error::Error, fmt};
 
-/// Why a frame was not read (1 to 10) or not written (11 to 13). Each cause has one number.
+/// Why a frame was not read (1 to 10) or not written (11 to 13). Each cause has one number, which it keeps; there may
+/// be more causes later. What to do about one is [`Refusal::needs`].
 #[derive(Clone, Copy, Debug, PartialEq, Eq, Hash)]
+#[non_exhaustive]
 #[repr(u8)]
 pub enum Refusal {
     /// 1: the input is empty.
@@ -71,6 +73,58 @@ impl Refusal {
     pub fn from_number(number: u8) -> Option<Refusal> {
         ALL.get(usize::from(number).wrapping_sub(1)).copied()
     }
+
+    /// What this refusal asks of the caller. Those of the writer, 11 to 13, are no answers of the reader, and final.
+    ///
+    /// ```
+    /// use thriftacorn::{Need, Refusal};
+    /// assert_eq!(Refusal::CutShort.needs(), Need::Wait);
+    /// assert_eq!(Refusal::NoRoom.needs(), Need::Room);
+    /// assert_eq!(Refusal::NotSync.needs(), Need::Final);
+    /// ```
+    pub const fn needs(self) -> Need {
+        match self {
+            Refusal::NothingLeft | Refusal::CutShort => Need::Wait,
+            Refusal::NoRoom => Need::Room,
+            Refusal::NotSync
+            | Refusal::Reserved
+            | Refusal::BadNumber
+            | Refusal::HeaderSum
+            | Refusal::NotDone
+            | Refusal::BadShape
+            | Refusal::FrameSum
+            | Refusal::BadArgument
+            | Refusal::SampleRange
+            | Refusal::OutputRoom => Need::Final,
+        }
+    }
+
+    /// Whether more bytes may make it a frame: [`Need::Wait`].
+    pub const fn wants_bytes(self) -> bool {
+        matches!(self.needs(), Need::Wait)
+    }
+
+    /// Whether more room for samples makes it another answer: [`Need::Room`].
+    pub const fn wants_room(self) -> bool {
+        matches!(self.needs(), Need::Room)
+    }
+
+    /// Whether neither more bytes nor more room changes it: [`Need::Final`]. Only such a refusal says that no frame
+    /// will be read at this place.
+    pub const fn is_final(self) -> bool {
+        matches!(self.needs(), Need::Final)
+    }
+}
+
+/// What a refusal asks of the caller. There are these three, so that a `match` needs no other arm.
+#[derive(Clone, Copy, Debug, PartialEq, Eq, Hash)]
+pub enum Need {
+    /// More bytes may make it a frame: wait for them, and read again from the same place.
+    Wait,
+    /// More room for samples makes it another answer. More bytes do not.
+    Room,
+    /// Neither more bytes nor more room changes it.
+    Final,
 }
 
 /// The cause in words, as the program `frames` says it.

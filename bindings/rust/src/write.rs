@@ -1,21 +1,5 @@
-//! Writing one frame: the safe side of `thriftacorn_write_frame`.
-use crate::{answer, Refusal};
-
-#[link(name = "thriftacorn", kind = "static")]
-extern "C" {
-    fn thriftacorn_write_frame(
-        samples: *const i32,
-        samples_len: usize,
-        channels: u32,
-        bits: u32,
-        blocking: u32,
-        number: u64,
-        size: usize,
-        out: *mut u8,
-        out_len: usize,
-        length: *mut usize,
-    ) -> u8;
-}
+//! Writing one frame.
+use crate::{answer, library, Refusal};
 
 /// How a stream is cut into blocks, and so what the number in a frame's header counts.
 #[derive(Clone, Copy, Debug, PartialEq, Eq, Hash)]
@@ -27,11 +11,20 @@ pub enum Blocking {
     Variable = 1,
 }
 
-/// What a frame is written with.
+/// What a frame is written with. Other crates start from [`WriteSettings::new`] and may set each field; there may be
+/// more fields later, which `new` gives the meaning that nothing changes.
+///
+/// ```
+/// use thriftacorn::{Blocking, WriteSettings};
+/// let mut settings = WriteSettings::new(WriteSettings::MID_SIDE, 24, 4096).fixed(7);
+/// assert_eq!((settings.blocking, settings.number), (Blocking::Fixed, 7));
+/// settings.number += 1;
+/// ```
 #[derive(Clone, Copy, Debug, PartialEq, Eq, Hash)]
-pub struct Settings {
-    /// 0 to 7 for one more independent channels, [`Settings::LEFT_SIDE`], [`Settings::SIDE_RIGHT`] or
-    /// [`Settings::MID_SIDE`].
+#[non_exhaustive]
+pub struct WriteSettings {
+    /// 0 to 7 for one more independent channels, [`WriteSettings::LEFT_SIDE`], [`WriteSettings::SIDE_RIGHT`] or
+    /// [`WriteSettings::MID_SIDE`].
     pub channel_code: u32,
     /// The bits of a sample: 8, 12, 16, 20 or 24.
     pub bits: u32,
@@ -43,13 +36,28 @@ pub struct Settings {
     pub block_size: usize,
 }
 
-impl Settings {
+impl WriteSettings {
     /// Two channels, stored as the left one and the difference.
     pub const LEFT_SIDE: u32 = 8;
     /// Two channels, stored as the difference and the right one.
     pub const SIDE_RIGHT: u32 = 9;
     /// Two channels, stored as their mean and the difference.
     pub const MID_SIDE: u32 = 10;
+
+    /// The first frame of a stream with fixed blocking. Nothing is judged here: [`write_frame`] does.
+    pub const fn new(channel_code: u32, bits: u32, block_size: usize) -> WriteSettings {
+        WriteSettings { channel_code, bits, blocking: Blocking::Fixed, number: 0, block_size }
+    }
+
+    /// The same with fixed blocking and the frame's number.
+    pub const fn fixed(self, number: u64) -> WriteSettings {
+        WriteSettings { blocking: Blocking::Fixed, number, ..self }
+    }
+
+    /// The same with variable blocking and the number of the block's first sample.
+    pub const fn variable(self, number: u64) -> WriteSettings {
+        WriteSettings { blocking: Blocking::Variable, number, ..self }
+    }
 
     /// How many channels there are; 0 for a channel code that there is not.
     pub const fn channels(&self) -> usize {
@@ -64,23 +72,15 @@ impl Settings {
     /// those that hold, for all channels, 8 bits and the samples. 0 for settings with which no frame is written.
     ///
     /// ```
-    /// use thriftacorn::{Blocking, Settings};
-    /// let one = Settings { channel_code: 0, bits: 16, blocking: Blocking::Fixed, number: 0, block_size: 1 };
-    /// assert_eq!(one.longest(), 19);
-    /// let two = Settings { channel_code: Settings::LEFT_SIDE, block_size: 4096, ..one };
-    /// assert_eq!(two.longest(), 16914);
+    /// use thriftacorn::WriteSettings;
+    /// assert_eq!(WriteSettings::new(0, 16, 1).longest(), 19);
+    /// assert_eq!(WriteSettings::new(WriteSettings::LEFT_SIDE, 16, 4096).longest(), 16914);
+    /// assert_eq!(WriteSettings::new(0, 17, 1).longest(), 0);
     /// ```
-    pub const fn longest(&self) -> usize {
-        let channels = self.channels();
-        let widths = match (self.channel_code, self.bits) {
-            (0..=7, 8 | 12 | 16 | 20 | 24) => channels * self.bits as usize,
-            (8..=10, 8 | 12 | 16 | 20 | 24) => channels * self.bits as usize + 1,
-            _ => return 0,
-        };
-        match self.block_size {
-            1..=65535 => 16 + (8 * channels + widths * self.block_size).div_ceil(8),
-            _ => 0,
-        }
+    pub fn longest(&self) -> usize {
+        let WriteSettings { channel_code, bits, blocking, number, block_size } = *self;
+        // SAFETY: as `library` wants it; no memory is passed.
+        unsafe { library::thriftacorn_longest_v1(channel_code, bits, blocking as u32, number, block_size) }
     }
 }
 
@@ -93,26 +93,24 @@ impl Settings {
 /// |---|---|
 /// | 11 | a setting outside its range, or a count of samples that is not channels times block size |
 /// | 12 | a sample that does not fit the bits |
-/// | 13 | exactly when the frame is longer than `out` |
+/// | 13 | exactly when the frame is longer than `out`: [`WriteSettings::longest`] is enough |
 ///
 /// ```
-/// use thriftacorn::{read_frame, write_frame, Blocking, Settings};
-/// let settings = Settings { channel_code: 1, bits: 16, blocking: Blocking::Fixed, number: 3, block_size: 4 };
+/// use thriftacorn::{read_frame, write_frame, WriteSettings};
+/// let settings = WriteSettings::new(1, 16, 4).fixed(3);
 /// let samples = [1, 2, 3, 4, -1, -2, -3, -4];
 /// let mut out = vec![0; settings.longest()];
 /// let length = write_frame(&samples, &settings, &mut out)?;
 /// let mut again = [0; 8];
 /// let frame = read_frame(&out[..length], &mut again)?;
-/// assert_eq!((frame.consumed, frame.first_sample, again), (length, 12, samples));
+/// assert_eq!((frame.consumed, frame.first_sample, again), (length, Some(12), samples));
 /// # Ok::<(), thriftacorn::Refusal>(())
 /// ```
-pub fn write_frame(samples: &[i32], settings: &Settings, out: &mut [u8]) -> Result<usize, Refusal> {
+pub fn write_frame(samples: &[i32], settings: &WriteSettings, out: &mut [u8]) -> Result<usize, Refusal> {
     let mut length = 0;
-    // SAFETY: each slice is passed as its own pointer and length, so it may be read (`samples`) or written (`out`) in
-    // full; an empty slice's pointer is not null, and aligned. `length` is a place of its own, and nothing overlaps.
-    // The function asks for nothing else (it has no precondition), touches no other memory, and returns.
+    // SAFETY: as `library` wants it.
     let number = unsafe {
-        thriftacorn_write_frame(
+        library::thriftacorn_write_frame_v1(
             samples.as_ptr(),
             samples.len(),
             settings.channel_code,

@@ -1,10 +1,34 @@
 //! The writer's answers through the binding, with what the output holds after each, and that frames read back.
-use thriftacorn::{read_frame, write_frame, Blocking, Frame, Refusal, Settings};
+use crate::told;
+use thriftacorn::{read_frame, write_frame, Blocking, Refusal, WriteSettings};
 
-const ONE: Settings = Settings { channel_code: 0, bits: 16, blocking: Blocking::Fixed, number: 0, block_size: 1 };
+const ONE: WriteSettings = WriteSettings::new(0, 16, 1);
+
+/// `ONE` with something changed.
+fn but(change: impl FnOnce(&mut WriteSettings)) -> WriteSettings {
+    let mut settings = ONE;
+    change(&mut settings);
+    settings
+}
+
+/// Settings with which no frame is written.
+fn wrong() -> Vec<WriteSettings> {
+    vec![
+        but(|set| set.channel_code = 11),
+        but(|set| set.channel_code = u32::MAX),
+        but(|set| set.bits = 0),
+        but(|set| set.bits = 17),
+        but(|set| set.bits = 32),
+        but(|set| set.block_size = 0),
+        but(|set| set.block_size = 65536),
+        but(|set| set.block_size = usize::MAX),
+        ONE.fixed(1 << 31),
+        ONE.variable(1 << 36),
+    ]
+}
 
 /// What a write answers, and what it leaves of an output of twenty bytes that each held 9.
-fn write(samples: &[i32], settings: &Settings) -> (Result<usize, Refusal>, [u8; 20]) {
+fn write(samples: &[i32], settings: &WriteSettings) -> (Result<usize, Refusal>, [u8; 20]) {
     let mut out = [9; 20];
     (write_frame(samples, settings, &mut out), out)
 }
@@ -23,18 +47,7 @@ fn a_frame_is_written_to_the_front() {
 #[test]
 fn settings_out_of_range_are_refused_first() {
     let refused = (Err(Refusal::BadArgument), [9; 20]);
-    for settings in [
-        Settings { channel_code: 11, ..ONE },
-        Settings { channel_code: u32::MAX, ..ONE },
-        Settings { bits: 0, ..ONE },
-        Settings { bits: 17, ..ONE },
-        Settings { bits: 32, ..ONE },
-        Settings { block_size: 0, ..ONE },
-        Settings { block_size: 65536, ..ONE },
-        Settings { block_size: usize::MAX, ..ONE },
-        Settings { number: 1 << 31, ..ONE },
-        Settings { number: 1 << 36, blocking: Blocking::Variable, ..ONE },
-    ] {
+    for settings in wrong() {
         assert_eq!(write(&[1 << 20], &settings), refused, "{settings:?}");
     }
     assert_eq!(write(&[], &ONE), refused);
@@ -45,7 +58,7 @@ fn settings_out_of_range_are_refused_first() {
 fn samples_must_fit_the_bits() {
     for bits in [8, 12, 16, 20, 24] {
         let top = 1 << (bits - 1);
-        let settings = Settings { bits, ..ONE };
+        let settings = but(|set| set.bits = bits);
         assert_eq!(write(&[top], &settings), (Err(Refusal::SampleRange), [9; 20]));
         assert_eq!(write(&[-top - 1], &settings), (Err(Refusal::SampleRange), [9; 20]));
         assert!(write(&[top - 1], &settings).0.is_ok());
@@ -67,12 +80,11 @@ fn an_output_that_is_too_short_stays_as_it_was() {
 #[test]
 fn the_longest_frame_is_bounded() {
     assert_eq!(ONE.longest(), 19);
-    assert_eq!(Settings { channel_code: Settings::LEFT_SIDE, block_size: 4096, ..ONE }.longest(), 16914);
-    for code in [11, u32::MAX] {
-        assert_eq!(Settings { channel_code: code, ..ONE }.longest(), 0);
+    assert_eq!(ONE.variable((1 << 36) - 1).longest(), 19);
+    assert_eq!(WriteSettings::new(WriteSettings::LEFT_SIDE, 16, 4096).longest(), 16914);
+    for settings in wrong() {
+        assert_eq!(settings.longest(), 0, "{settings:?}");
     }
-    assert_eq!(Settings { bits: 9, ..ONE }.longest(), 0);
-    assert_eq!(Settings { block_size: usize::MAX, ..ONE }.longest(), 0);
 }
 
 /// Samples of these bits, from loud noise to silence as `kind` goes from 0 to 3.
@@ -91,7 +103,7 @@ fn signal(count: usize, bits: u32, kind: u32, seed: &mut u64) -> Vec<i32> {
 }
 
 /// Writes these samples, reads them back, and holds the report to the settings.
-fn reads_back(samples: &[i32], settings: &Settings) {
+fn reads_back(samples: &[i32], settings: &WriteSettings) {
     let mut out = vec![0; settings.longest()];
     let length = write_frame(samples, settings, &mut out).unwrap();
     let mut again = vec![0; samples.len()];
@@ -100,8 +112,8 @@ fn reads_back(samples: &[i32], settings: &Settings) {
         Blocking::Fixed => settings.number * settings.block_size as u64,
         Blocking::Variable => settings.number,
     };
-    let (bits, block_size) = (settings.bits, settings.block_size);
-    assert_eq!(frame, Frame { consumed: length, first_sample, channels: settings.channels(), bits, block_size });
+    let report = (length, Some(first_sample), settings.channels(), settings.bits, settings.block_size);
+    assert_eq!(told(frame), report);
     assert!(again == samples, "{settings:?}");
 }
 
@@ -111,8 +123,8 @@ fn frames_read_back() {
     for channel_code in 0..=10 {
         for bits in [8, 12, 16, 20, 24] {
             for (n, block_size) in [1, 2, 3, 4, 5, 16, 192, 255, 257, 1000].into_iter().enumerate() {
-                let blocking = if n % 2 == 0 { Blocking::Fixed } else { Blocking::Variable };
-                let settings = Settings { channel_code, bits, blocking, number: 1 << (3 * n), block_size };
+                let (settings, number) = (WriteSettings::new(channel_code, bits, block_size), 1 << (3 * n));
+                let settings = if n % 2 == 0 { settings.fixed(number) } else { settings.variable(number) };
                 let kind = (n as u32 + channel_code + bits / 4) % 4;
                 reads_back(&signal(settings.channels() * block_size, bits, kind, &mut seed), &settings);
             }
@@ -122,6 +134,5 @@ fn frames_read_back() {
 
 #[test]
 fn the_largest_block_reads_back() {
-    let settings = Settings { channel_code: 7, bits: 24, block_size: 65535, ..ONE };
-    reads_back(&signal(8 * 65535, 24, 0, &mut 5), &settings);
+    reads_back(&signal(8 * 65535, 24, 0, &mut 5), &WriteSettings::new(7, 24, 65535));
 }

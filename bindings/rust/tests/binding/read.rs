@@ -1,14 +1,11 @@
 //! The reader's answers through the binding, with what the buffer holds after each.
-use thriftacorn::{read_frame, Frame, Frames, Refusal};
-
-/// The frame of RFC 9639's first example.
-const WHOLE: [u8; 15] = [0xFF, 0xF8, 0x69, 0x18, 0x00, 0x00, 0xBF, 0x03, 0x58, 0xFD, 0x03, 0x12, 0x8B, 0xAA, 0x9A];
-const WHOLE_FRAME: Frame = Frame { consumed: 15, first_sample: 0, channels: 2, bits: 16, block_size: 1 };
+use crate::{told, Told, WHOLE, WHOLE_TOLD};
+use thriftacorn::{read_frame, Frames, Refusal, ROOM};
 
 /// What a read answers, and what it leaves of four samples that each held 7.
-fn read(bytes: &[u8]) -> (Result<Frame, Refusal>, [i32; 4]) {
+fn read(bytes: &[u8]) -> (Result<Told, Refusal>, [i32; 4]) {
     let mut samples = [7; 4];
-    (read_frame(bytes, &mut samples), samples)
+    (read_frame(bytes, &mut samples).map(told), samples)
 }
 
 fn bytes(hex: &str) -> Vec<u8> {
@@ -17,10 +14,10 @@ fn bytes(hex: &str) -> Vec<u8> {
 
 #[test]
 fn whole_case() {
-    assert_eq!(read(&WHOLE), (Ok(WHOLE_FRAME), [25588, 10416, 7, 7]));
+    assert_eq!(read(&WHOLE), (Ok(WHOLE_TOLD), [25588, 10416, 7, 7]));
     let mut followed = WHOLE.to_vec();
     followed.extend([0, 1]);
-    assert_eq!(read(&followed), (Ok(WHOLE_FRAME), [25588, 10416, 7, 7]));
+    assert_eq!(read(&followed), (Ok(WHOLE_TOLD), [25588, 10416, 7, 7]));
 }
 
 #[test]
@@ -60,7 +57,7 @@ fn room_is_needed_for_every_sample() {
         assert_eq!(samples, vec![7; room]);
     }
     let mut samples = [7; 2];
-    assert_eq!(read_frame(&WHOLE, &mut samples), Ok(WHOLE_FRAME));
+    assert_eq!(read_frame(&WHOLE, &mut samples).map(told), Ok(WHOLE_TOLD));
     assert_eq!(samples, [25588, 10416]);
 }
 
@@ -80,22 +77,37 @@ fn frames_stop_at_the_first_refusal_and_stay_there() {
     assert_eq!(frames.read(&mut []), Err(Refusal::NoRoom));
     assert_eq!(frames.place(), 0);
     for n in 1..=2 {
-        assert_eq!(frames.read(&mut samples), Ok(WHOLE_FRAME));
-        assert_eq!(frames.place(), 15 * n);
+        assert_eq!(frames.read(&mut samples).map(told), Ok(WHOLE_TOLD));
+        assert_eq!((frames.place(), samples), (15 * n, [25588, 10416]));
     }
-    assert_eq!(frames.read(&mut samples), Err(Refusal::CutShort));
-    assert_eq!(frames.read(&mut samples), Err(Refusal::CutShort));
-    assert_eq!(frames.place(), 30);
+    for _ in 0..2 {
+        assert_eq!(frames.read(&mut samples), Err(Refusal::CutShort));
+        assert_eq!((frames.place(), samples), (30, [0, 0]));
+    }
 }
 
 #[test]
-fn channels_are_parts_of_the_samples() {
-    let frame = Frame { channels: 3, block_size: 2, ..WHOLE_FRAME };
-    let samples = [1, 2, 3, 4, 5, 6, 7];
-    assert_eq!(frame.samples(), 6);
-    assert_eq!(frame.channel(&samples, 2), Some(&[5, 6][..]));
-    assert_eq!(frame.channel(&samples, 3), None);
-    assert_eq!(frame.channel(&samples[..5], 2), None);
+fn a_final_refusal_ends_the_frames_too() {
+    let row = [&WHOLE[..], b"RIFF", &WHOLE[..]].concat();
+    let (mut frames, mut samples) = (Frames::new(&row), [0; 2]);
+    assert_eq!(frames.read(&mut samples).map(told), Ok(WHOLE_TOLD));
+    for _ in 0..2 {
+        assert_eq!((frames.read(&mut samples), frames.place()), (Err(Refusal::NotSync), 15));
+    }
+    assert_eq!(samples, [25588, 10416]);
+}
+
+#[test]
+fn frames_end_with_nothing_left() {
+    let row = [WHOLE; 100].concat();
+    let (mut frames, mut samples, mut count) = (Frames::new(&row), vec![0; ROOM], 0);
+    while let Ok(frame) = frames.read(&mut samples) {
+        assert_eq!((told(frame), frame.channel(&samples, 0)), (WHOLE_TOLD, Some(&[25588][..])));
+        count += 1;
+    }
+    assert_eq!((count, frames.place()), (100, row.len()));
+    assert_eq!(frames.read(&mut samples), Err(Refusal::NothingLeft));
+    assert_eq!(Frames::new(&[]).read(&mut []), Err(Refusal::NothingLeft));
 }
 
 #[test]

@@ -1,0 +1,316 @@
+/*
+ * The header's functions, called as C and as C++: RFC 9639's first frame, half of a frame that holds it, frame after
+ * frame, writing and reading back, access to a block, and every value that a pointer leads to after a refusal.
+ */
+#include <thriftacorn.h>
+
+#include <stdio.h>
+#include <string.h>
+
+static int checks, failures;
+
+static void check(int right, int line, const char *what)
+{
+    checks++;
+    if (!right) {
+        failures++;
+        printf("test.c:%d: not so: %s\n", line, what);
+    }
+}
+#define CHECK(fact) check((fact) != 0, __LINE__, #fact)
+
+/* RFC 9639's first frame: two channels of one sample. */
+static const uint8_t whole[15] = {0xFF, 0xF8, 0x69, 0x18, 0x00, 0x00, 0xBF, 0x03,
+                                  0x58, 0xFD, 0x03, 0x12, 0x8B, 0xAA, 0x9A};
+
+/*
+ * One channel, 8 bits, 191 verbatim samples; fifteen of them, from byte 107 on, are the bytes of `whole`. It is the
+ * stored case `frame-in-sound` of cases/runner.txt.
+ */
+#define HOLDING 201
+#define INSIDE 107
+static void make_holding(uint8_t frame[HOLDING])
+{
+    static const uint8_t head[8] = {0xFF, 0xF8, 0x60, 0x02, 0x00, 0xBE, 0x0F, 0x02};
+    int i;
+    memcpy(frame, head, sizeof head);
+    for (i = 0; i < 191; i++) {
+        frame[8 + i] = (uint8_t)(i * i % 251 - 125);
+    }
+    memcpy(frame + INSIDE, whole, sizeof whole);
+    frame[199] = 0x17;
+    frame[200] = 0x03;
+}
+
+static void fill(int32_t *samples, size_t count, int32_t value)
+{
+    size_t i;
+    for (i = 0; i < count; i++) {
+        samples[i] = value;
+    }
+}
+
+static int is_nothing(const thriftacorn_frame *frame)
+{
+    static const thriftacorn_frame nothing = THRIFTACORN_FRAME_INIT;
+    return memcmp(frame, &nothing, sizeof nothing) == 0;
+}
+
+static void test_whole(void)
+{
+    thriftacorn_frame frame;
+    int32_t samples[4];
+    size_t length;
+    fill(samples, 4, 7);
+    CHECK(thriftacorn_read_frame(whole, sizeof whole, samples, 4, &frame) == THRIFTACORN_OK);
+    CHECK(frame.consumed == 15 && frame.channels == 2 && frame.block_size == 1 && frame.bits == 16);
+    CHECK(frame.first_sample == 0 && frame.first_sample_known == 1);
+    CHECK(samples[0] == 25588 && samples[1] == 10416 && samples[2] == 7 && samples[3] == 7);
+    for (length = 0; length < sizeof whole; length++) {
+        memset(&frame, 0xFF, sizeof frame);
+        fill(samples, 4, 7);
+        CHECK(thriftacorn_read_frame(whole, length, samples, 4, &frame) ==
+              (length == 0 ? THRIFTACORN_NOTHING_LEFT : THRIFTACORN_CUT_SHORT));
+        CHECK(is_nothing(&frame));
+        CHECK(samples[0] == (length <= 7 ? 7 : 0) && samples[1] == samples[0] && samples[2] == 7);
+    }
+    CHECK(thriftacorn_read_frame(whole, sizeof whole, samples, 1, &frame) == THRIFTACORN_NO_ROOM);
+    CHECK(is_nothing(&frame));
+}
+
+/* Half a frame waits, though a frame stands inside it. */
+static void test_holding(void)
+{
+    uint8_t bytes[HOLDING];
+    int32_t samples[256];
+    thriftacorn_frame frame;
+    size_t length, place;
+    uint8_t answer;
+    make_holding(bytes);
+    for (length = 0; length < HOLDING; length++) {
+        answer = thriftacorn_read_frame(bytes, length, samples, 256, &frame);
+        CHECK(thriftacorn_needs(answer) == THRIFTACORN_NEED_WAIT);
+    }
+    for (place = 1; place < 161; place++) {
+        if (thriftacorn_read_frame(bytes + place, 161 - place, samples, 256, &frame) == THRIFTACORN_OK) {
+            break;
+        }
+    }
+    CHECK(place == INSIDE && frame.consumed == 15 && frame.channels == 2);
+    CHECK(thriftacorn_read_frame(bytes, HOLDING, samples, 256, &frame) == THRIFTACORN_OK);
+    CHECK(frame.consumed == HOLDING && frame.channels == 1 && frame.bits == 8 && frame.block_size == 191);
+    CHECK(samples[0] == -125 && samples[99] == -1 && samples[100] == -8 && samples[190] == 82);
+}
+
+static void test_next(void)
+{
+    uint8_t row[15 + HOLDING + 15 + 4];
+    int32_t samples[256];
+    thriftacorn_frame frame;
+    size_t place = 0;
+    memcpy(row, whole, 15);
+    make_holding(row + 15);
+    memcpy(row + 15 + HOLDING, whole, 15);
+    memcpy(row + 15 + HOLDING + 15, "RIFF", 4);
+    CHECK(thriftacorn_read_next(row, sizeof row, &place, samples, 0, &frame) == THRIFTACORN_NO_ROOM);
+    CHECK(place == 0 && is_nothing(&frame));
+    CHECK(thriftacorn_read_next(row, sizeof row, &place, samples, 256, &frame) == THRIFTACORN_OK);
+    CHECK(place == 15 && frame.consumed == 15 && frame.first_sample_known == 1);
+    CHECK(thriftacorn_read_next(row, sizeof row, &place, samples, 256, &frame) == THRIFTACORN_OK);
+    CHECK(place == 15 + HOLDING && frame.consumed == HOLDING && frame.block_size == 191);
+    CHECK(thriftacorn_read_next(row, sizeof row, &place, samples, 256, &frame) == THRIFTACORN_OK);
+    CHECK(place == sizeof row - 4 && samples[1] == 10416);
+    CHECK(thriftacorn_read_next(row, sizeof row, &place, samples, 256, &frame) == THRIFTACORN_NOT_SYNC);
+    CHECK(place == sizeof row - 4 && is_nothing(&frame));
+    place = sizeof row;
+    CHECK(thriftacorn_read_next(row, sizeof row, &place, samples, 256, &frame) == THRIFTACORN_NOTHING_LEFT);
+    place = SIZE_MAX;
+    CHECK(thriftacorn_read_next(row, sizeof row, &place, samples, 256, &frame) == THRIFTACORN_NOTHING_LEFT);
+    CHECK(place == SIZE_MAX && is_nothing(&frame));
+}
+
+static void test_write(void)
+{
+    static const int32_t samples[8] = {1, 2, 3, 4, -1, -2, -3, -4};
+#ifdef __cplusplus
+    thriftacorn_write_settings settings = THRIFTACORN_WRITE_SETTINGS_INIT;
+    settings.channel_code = THRIFTACORN_MID_SIDE;
+    settings.bits = 16;
+    settings.number = 3;
+    settings.block_size = 4;
+#else
+    thriftacorn_write_settings settings = {
+        .channel_code = THRIFTACORN_MID_SIDE, .bits = 16, .number = 3, .block_size = 4};
+#endif
+    uint8_t out[64];
+    int32_t again[8];
+    thriftacorn_frame frame;
+    size_t length = 99, longest = thriftacorn_longest(&settings), room;
+    CHECK(0 < longest && longest <= sizeof out);
+    memset(out, 9, sizeof out);
+    CHECK(thriftacorn_write_frame(samples, 8, &settings, out, longest, &length) == THRIFTACORN_OK);
+    CHECK(0 < length && length <= longest && out[length] == 9);
+    CHECK(thriftacorn_read_frame(out, length, again, 8, &frame) == THRIFTACORN_OK);
+    CHECK(frame.consumed == length && frame.channels == 2 && frame.block_size == 4 && frame.first_sample == 12);
+    CHECK(memcmp(again, samples, sizeof again) == 0);
+    settings.blocking = THRIFTACORN_VARIABLE;
+    CHECK(thriftacorn_write_frame(samples, 8, &settings, out, longest, &room) == THRIFTACORN_OK);
+    CHECK(thriftacorn_read_frame(out, room, again, 8, &frame) == THRIFTACORN_OK && frame.first_sample == 3);
+    memset(out, 9, sizeof out);
+    for (room = 0; room < length; room++) {
+        size_t none = 99;
+        CHECK(thriftacorn_write_frame(samples, 8, &settings, out, room, &none) == THRIFTACORN_OUTPUT_ROOM);
+        CHECK(none == 0 && out[0] == 9 && out[room] == 9);
+    }
+}
+
+/* `reserved` of today is a setting of tomorrow: it is refused and not passed over. */
+static void test_settings(void)
+{
+    const thriftacorn_write_settings nothing = THRIFTACORN_WRITE_SETTINGS_INIT;
+    thriftacorn_write_settings settings = nothing;
+    static const int32_t sample = 5, loud = 32768;
+    uint8_t out[32];
+    size_t length, i;
+    settings.bits = 16;
+    settings.block_size = 1;
+    CHECK(thriftacorn_longest(&settings) == 19 && thriftacorn_longest(&nothing) == 0);
+    CHECK(thriftacorn_write_frame(&sample, 1, &settings, out, 32, &length) == THRIFTACORN_OK && length == 12);
+    CHECK(thriftacorn_write_frame(&loud, 1, &settings, out, 32, &length) == THRIFTACORN_SAMPLE_RANGE && length == 0);
+    length = 99;
+    CHECK(thriftacorn_write_frame(&sample, 1, &nothing, out, 32, &length) == THRIFTACORN_BAD_ARGUMENT && length == 0);
+    for (i = 0; i < 8; i++) {
+        thriftacorn_write_settings later = settings;
+        later.reserved[i] = UINT64_C(1) << 63;
+        CHECK(thriftacorn_write_frame(&sample, 1, &later, out, 32, &length) == THRIFTACORN_BAD_ARGUMENT);
+        CHECK(thriftacorn_longest(&later) == 0 && length == 0);
+    }
+    settings.reserved_word = 1;
+    CHECK(thriftacorn_longest(&settings) == 0);
+    settings.reserved_word = 0;
+    settings.channel_code = THRIFTACORN_LEFT_SIDE;
+    settings.block_size = 4096;
+    CHECK(thriftacorn_longest(&settings) == 16914);
+    settings.number = UINT64_C(1) << 31;
+    CHECK(thriftacorn_longest(&settings) == 0);
+    settings.blocking = THRIFTACORN_VARIABLE;
+    CHECK(thriftacorn_longest(&settings) == 16914);
+}
+
+static void test_block(void)
+{
+    static const int32_t samples[7] = {1, 2, 3, 4, 5, 6, 7};
+    thriftacorn_frame frame = THRIFTACORN_FRAME_INIT;
+    size_t start, end, channel;
+    int32_t left, right;
+    frame.channels = 3;
+    frame.block_size = 2;
+    for (channel = 0; channel < 3; channel++) {
+        CHECK(thriftacorn_channel(&frame, samples, 7, channel, &start, &end) == THRIFTACORN_OK);
+        CHECK(start == 2 * channel && end == 2 * channel + 2);
+        CHECK(thriftacorn_sample(&frame, samples, 7, channel, 1, &left) == THRIFTACORN_OK);
+        CHECK(left == samples[2 * channel + 1]);
+    }
+    CHECK(thriftacorn_channel(&frame, samples, 7, 3, &start, &end) == THRIFTACORN_BAD_ARGUMENT);
+    CHECK(start == 0 && end == 0);
+    CHECK(thriftacorn_channel(&frame, samples, 5, 0, &start, &end) == THRIFTACORN_BAD_ARGUMENT);
+    CHECK(thriftacorn_sample(&frame, samples, 7, 0, 2, &left) == THRIFTACORN_BAD_ARGUMENT && left == 0);
+    CHECK(thriftacorn_pair(&frame, samples, 7, 0, &left, &right) == THRIFTACORN_BAD_ARGUMENT);
+    frame.channels = 2;
+    frame.block_size = 3;
+    CHECK(thriftacorn_pair(&frame, samples, 7, 2, &left, &right) == THRIFTACORN_OK && left == 3 && right == 6);
+    CHECK(thriftacorn_pair(&frame, samples, 7, 3, &left, &right) == THRIFTACORN_BAD_ARGUMENT);
+    CHECK(left == 0 && right == 0);
+}
+
+/* What the library itself hands back of a refusal, whatever stood there. */
+static void test_values(void)
+{
+    size_t consumed = 99, channels = 99, size = 99, place = 1, start = 99, end = 99, length = 99;
+    uint64_t first = 99;
+    uint32_t bits = 99;
+    int32_t samples[2] = {7, 7}, value = 99, left = 99, right = 99;
+    uint8_t out[4] = {9, 9, 9, 9};
+    CHECK(thriftacorn_read_frame_v1(whole, 15, samples, 1, &consumed, &first, &channels, &bits, &size) == 7);
+    CHECK(consumed == 0 && first == 0 && channels == 0 && bits == 0 && size == 0);
+    consumed = channels = size = 99;
+    first = bits = 99;
+    CHECK(thriftacorn_read_next_v1(whole, 15, &place, samples, 2, &consumed, &first, &channels, &bits, &size) == 3);
+    CHECK(consumed == 0 && first == 0 && channels == 0 && bits == 0 && size == 0 && place == 1);
+    CHECK(thriftacorn_write_frame_v1(samples, 2, 0, 16, 0, 0, 2, out, 4, &length) == 13 && length == 0);
+    CHECK(out[0] == 9 && out[3] == 9 && samples[0] == 7 && samples[1] == 7);
+    CHECK(thriftacorn_channel_v1(samples, 2, 2, 1, 2, &start, &end) == 11 && start == 0 && end == 0);
+    CHECK(thriftacorn_sample_v1(samples, 2, 2, 1, 0, 1, &value) == 11 && value == 0);
+    CHECK(thriftacorn_pair_v1(samples, 2, 1, 2, 0, &left, &right) == 11 && left == 0 && right == 0);
+    CHECK(thriftacorn_longest_v1(0, 16, 2, 0, 1) == 0);
+}
+
+/* An empty slice may be NULL; another is refused. */
+static void test_null(void)
+{
+    thriftacorn_write_settings settings = THRIFTACORN_WRITE_SETTINGS_INIT;
+    thriftacorn_frame frame = THRIFTACORN_FRAME_INIT;
+    size_t place = 0, length = 99, start = 99, end = 99;
+    int32_t value = 99, left = 99, right = 99;
+    CHECK(thriftacorn_read_frame(NULL, 0, NULL, 0, &frame) == THRIFTACORN_NOTHING_LEFT);
+    CHECK(thriftacorn_read_frame(whole, 15, NULL, 0, &frame) == THRIFTACORN_NO_ROOM);
+    CHECK(thriftacorn_read_frame(whole, 15, NULL, 2, &frame) == THRIFTACORN_BAD_ARGUMENT);
+    CHECK(thriftacorn_read_frame(NULL, 15, NULL, 0, &frame) == THRIFTACORN_BAD_ARGUMENT);
+    CHECK(thriftacorn_read_next(NULL, 0, &place, NULL, 0, &frame) == THRIFTACORN_NOTHING_LEFT && place == 0);
+    CHECK(thriftacorn_read_next(NULL, 1, &place, NULL, 0, &frame) == THRIFTACORN_BAD_ARGUMENT && place == 0);
+    settings.bits = 16;
+    settings.block_size = 1;
+    CHECK(thriftacorn_write_frame(&value, 1, &settings, NULL, 0, &length) == THRIFTACORN_OUTPUT_ROOM && length == 0);
+    CHECK(thriftacorn_write_frame(&value, 1, &settings, NULL, 19, &length) == THRIFTACORN_BAD_ARGUMENT);
+    CHECK(thriftacorn_write_frame(NULL, 0, &settings, NULL, 0, &length) == THRIFTACORN_BAD_ARGUMENT);
+    frame.channels = 2;
+    CHECK(thriftacorn_channel(&frame, NULL, 0, 1, &start, &end) == THRIFTACORN_OK && start == 0 && end == 0);
+    CHECK(thriftacorn_channel(&frame, NULL, 9, 1, &start, &end) == THRIFTACORN_BAD_ARGUMENT);
+    CHECK(thriftacorn_sample(&frame, NULL, 0, 1, 0, &value) == THRIFTACORN_BAD_ARGUMENT && value == 0);
+    CHECK(thriftacorn_pair(&frame, NULL, 0, 0, &left, &right) == THRIFTACORN_BAD_ARGUMENT && left == 0 && right == 0);
+}
+
+static void test_needs(void)
+{
+    int answer, other;
+    for (answer = 0; answer < 256; answer++) {
+        enum thriftacorn_need need = answer == 0                   ? THRIFTACORN_NEED_NOTHING
+                                     : answer == 1 || answer == 2 ? THRIFTACORN_NEED_WAIT
+                                     : answer == 7                ? THRIFTACORN_NEED_ROOM
+                                                                  : THRIFTACORN_NEED_FINAL;
+        CHECK(thriftacorn_needs((uint8_t)answer) == need);
+    }
+    for (answer = 0; answer < 15; answer++) {
+        for (other = 0; other < answer; other++) {
+            CHECK(strcmp(thriftacorn_words((uint8_t)answer), thriftacorn_words((uint8_t)other)) != 0);
+        }
+    }
+}
+
+/* The structs keep their sizes and their fields' places: objects of two versions of the header fit together. */
+static void test_layout(void)
+{
+    CHECK(THRIFTACORN_ROOM == 8 * 65535);
+    if (sizeof(size_t) == 8) {
+        CHECK(sizeof(thriftacorn_frame) == 104 && offsetof(thriftacorn_frame, reserved) == 40);
+        CHECK(offsetof(thriftacorn_frame, first_sample) == 24 && offsetof(thriftacorn_frame, bits) == 36);
+        CHECK(sizeof(thriftacorn_write_settings) == 96 && offsetof(thriftacorn_write_settings, reserved) == 32);
+        CHECK(offsetof(thriftacorn_write_settings, number) == 16);
+    }
+}
+
+int main(void)
+{
+    test_whole();
+    test_holding();
+    test_next();
+    test_write();
+    test_settings();
+    test_block();
+    test_values();
+    test_null();
+    test_needs();
+    test_layout();
+    printf("thriftacorn.h %s: %d checks, %d failed\n", THRIFTACORN_VERSION, checks, failures);
+    return failures != 0;
+}

@@ -1,0 +1,79 @@
+//! The functions of `libthriftacorn.a` as they are. A slice passes as its pointer and its length. Each function
+//! answers on every argument, and `_v1` means that it will not change: one with more settings gets a name of its own.
+//!
+//! What every call here relies on. The pointer and the length are one slice's own, so that it may be read, or written
+//! where it is lent with `mut`; an empty slice's pointer is aligned and not null. Each value that is handed back has
+//! a place of its own, and nothing overlaps. The functions ask for nothing else, touch no other memory, and return.
+
+#[link(name = "thriftacorn", kind = "static")]
+extern "C" {
+    pub fn thriftacorn_read_frame_v1(
+        bytes: *const u8,
+        bytes_len: usize,
+        samples: *mut i32,
+        samples_len: usize,
+        consumed: *mut usize,
+        first: *mut u64,
+        channels: *mut usize,
+        bits: *mut u32,
+        size: *mut usize,
+    ) -> u8;
+
+    pub fn thriftacorn_read_next_v1(
+        bytes: *const u8,
+        bytes_len: usize,
+        place: *mut usize,
+        samples: *mut i32,
+        samples_len: usize,
+        consumed: *mut usize,
+        first: *mut u64,
+        channels: *mut usize,
+        bits: *mut u32,
+        size: *mut usize,
+    ) -> u8;
+
+    pub fn thriftacorn_write_frame_v1(
+        samples: *const i32,
+        samples_len: usize,
+        channels: u32,
+        bits: u32,
+        blocking: u32,
+        number: u64,
+        size: usize,
+        out: *mut u8,
+        out_len: usize,
+        length: *mut usize,
+    ) -> u8;
+
+    pub fn thriftacorn_longest_v1(channels: u32, bits: u32, blocking: u32, number: u64, size: usize) -> usize;
+
+    pub fn thriftacorn_channel_v1(
+        samples: *const i32,
+        samples_len: usize,
+        channels: usize,
+        size: usize,
+        channel: usize,
+        start: *mut usize,
+        end: *mut usize,
+    ) -> u8;
+
+    pub fn thriftacorn_sample_v1(
+        samples: *const i32,
+        samples_len: usize,
+        channels: usize,
+        size: usize,
+        channel: usize,
+        index: usize,
+        value: *mut i32,
+    ) -> u8;
+
+    pub fn thriftacorn_pair_v1(
+        samples: *const i32,
+        samples_len: usize,
+        channels: usize,
+        size: usize,
+        index: usize,
+        left: *mut i32,
+        right: *mut i32,
+    ) -> u8;
+}

@@ -1,0 +1,109 @@
+//! What each refusal asks of the caller, and the input on which a caller who does not ask finds a frame inside the
+//! sound.
+use crate::{told, Told, WHOLE, WHOLE_TOLD};
+use thriftacorn::{read_frame, write_frame, Frames, Need, Refusal, WriteSettings};
+
+/// Where the sound holds RFC 9639's first frame.
+const INSIDE: usize = 107;
+const HOLDING_TOLD: Told = (201, Some(0), 1, 8, 191);
+
+/// One channel, 8 bits, 191 verbatim samples, block size code 6. Fifteen of the samples are the bytes of `WHOLE`, with
+/// both its check sums. It is the stored case `frame-in-sound` of cases/runner.txt.
+fn holding() -> Vec<u8> {
+    let mut frame = vec![0xFF, 0xF8, 0x60, 0x02, 0x00, 0xBE, 0x0F, 0x02];
+    frame.extend((0..191).map(|i| (i * i % 251 - 125) as u8));
+    frame[INSIDE..INSIDE + WHOLE.len()].copy_from_slice(&WHOLE);
+    frame.extend([0x17, 0x03]);
+    frame
+}
+
+/// The first place after the start at which a frame is read.
+fn hunt(bytes: &[u8]) -> Option<(usize, Told)> {
+    let mut samples = [0; 256];
+    (1..bytes.len()).find_map(|place| Some((place, told(read_frame(&bytes[place..], &mut samples).ok()?))))
+}
+
+#[test]
+fn each_refusal_says_what_it_needs() {
+    for number in 1..=13 {
+        let refusal = Refusal::from_number(number).unwrap();
+        let need = match number {
+            1 | 2 => Need::Wait,
+            7 => Need::Room,
+            _ => Need::Final,
+        };
+        assert_eq!(refusal.needs(), need, "{refusal:?}");
+        let said = (refusal.wants_bytes(), refusal.wants_room(), refusal.is_final());
+        assert_eq!(said, (need == Need::Wait, need == Need::Room, need == Need::Final), "{refusal:?}");
+    }
+}
+
+#[test]
+fn half_a_frame_waits_though_a_frame_stands_inside_it() {
+    let frame = holding();
+    assert_eq!((frame.len(), &frame[INSIDE..INSIDE + 15]), (201, &WHOLE[..]));
+    let mut samples = [0; 256];
+    for length in 0..frame.len() {
+        let refusal = read_frame(&frame[..length], &mut samples).unwrap_err();
+        assert_eq!(refusal.needs(), Need::Wait, "first {length} bytes");
+        assert_eq!(refusal, if length == 0 { Refusal::NothingLeft } else { Refusal::CutShort });
+    }
+    assert_eq!(hunt(&frame[..INSIDE + 14]), None);
+    assert_eq!(hunt(&frame[..161]), Some((INSIDE, WHOLE_TOLD)));
+    assert_eq!(read_frame(&frame, &mut samples).map(told), Ok(HOLDING_TOLD));
+    let sound: Vec<i32> = frame[8..199].iter().map(|&byte| i32::from(byte as i8)).collect();
+    assert_eq!(samples[..191], sound[..]);
+}
+
+#[test]
+fn the_writer_writes_that_frame() {
+    let frame = holding();
+    let sound: Vec<i32> = frame[8..199].iter().map(|&byte| i32::from(byte as i8)).collect();
+    let mut out = [0; 256];
+    assert_eq!(write_frame(&sound, &WriteSettings::new(0, 8, 191), &mut out), Ok(201));
+    assert_eq!(out[..201], frame[..]);
+}
+
+/// Reads an input that comes in pieces of this length, by `needs` alone.
+fn in_pieces(input: &[u8], length: usize) -> (Vec<Told>, Refusal) {
+    let mut pieces = input.chunks(length);
+    let (mut window, mut list, mut samples) = (Vec::new(), Vec::new(), [0; 256]);
+    loop {
+        let mut frames = Frames::new(&window);
+        let refusal = loop {
+            match frames.read(&mut samples) {
+                Ok(frame) => list.push(told(frame)),
+                Err(refusal) => break refusal,
+            }
+        };
+        window.drain(..frames.place());
+        match (refusal.needs(), pieces.next()) {
+            (Need::Wait, Some(piece)) => window.extend(piece),
+            _ => return (list, refusal),
+        }
+    }
+}
+
+#[test]
+fn however_an_input_is_cut_its_frames_are_the_same() {
+    let row = [&WHOLE[..], &holding(), &WHOLE, &WHOLE[..14]].concat();
+    let frames = vec![WHOLE_TOLD, HOLDING_TOLD, WHOLE_TOLD];
+    for length in 1..=row.len() {
+        assert_eq!(in_pieces(&row, length), (frames.clone(), Refusal::CutShort), "pieces of {length}");
+    }
+}
+
+#[test]
+fn more_bytes_and_more_room_do_as_needs_says() {
+    let mut samples = [0; 256];
+    let longer = [&WHOLE[..], &[0xFF; 40]].concat();
+    assert_eq!(read_frame(&longer, &mut samples[..1]), Err(Refusal::NoRoom));
+    assert_eq!(read_frame(&longer, &mut samples[..2]).map(told), Ok(WHOLE_TOLD));
+    for place in 0..WHOLE.len() {
+        let mut changed = longer.clone();
+        changed[place] ^= 0x10;
+        let refusal = read_frame(&changed[..15], &mut samples).unwrap_err();
+        assert!(refusal.is_final(), "byte {place} changed");
+        assert_eq!(read_frame(&changed, &mut samples), Err(refusal), "byte {place} changed");
+    }
+}
