@@ -1,10 +1,23 @@
 #!/bin/sh
-# Runs a proved program of this repository: sh run.sh NAME, with standard input and output passed on. Programs are for
-# x86-64 and come with the kit's own C library; on another processor they run under the kit's emulator.
+# Runs a proved program of this repository: sh run.sh NAME [WORDS], with standard input and output passed on. Programs
+# are for x86-64 and come with the kit's own C library; on another processor they run under the kit's emulator. sh
+# run.sh --say NAME writes the command and does not run it, for a script that has many runs to make.
 set -u
 here=$(cd "$(dirname "$0")" && pwd) || exit 2
+say=''
+if [ "${1:-}" = --say ]; then
+    say=1
+    shift
+fi
+name=${1:?"usage: sh run.sh [--say] NAME [WORDS]"}
+shift
 kit=$(dirname "$(dirname "$(rt doc)")")
 tools=$kit/on/$(uname -m)/toolchain
 emulator=$tools/bin/qemu-x86_64
 [ -x "$emulator" ] || emulator=''
-exec ${emulator:+"$emulator"} "$tools/lib/ld-linux-x86-64.so.2" --library-path "$tools/lib" "$here/target/bin/$1"
+set -- ${emulator:+"$emulator"} "$tools/lib/ld-linux-x86-64.so.2" --library-path "$tools/lib" "$here/target/bin/$name" "$@"
+[ -z "$say" ] || {
+    printf "'%s' " "$@"
+    exit
+}
+exec "$@"
