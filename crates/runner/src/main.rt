@@ -37,36 +37,37 @@ fn write_samples(samples: &[i32], n: usize)
     io::write_all(STDOUT_FILENO, &out[..5 * n]);
 }
 
-// One frame from the front of the bytes: how many it took, or 0 where it was refused.
-fn step(bytes: &[u8], samples: &mut [i32]) -> usize
-    requires { ⌜ length (now samples) ≤ 8192 ⌝ }
-    ensures { λ r. ⌜ r ≤ length (now (bytes .entry)) ⌝ }
+// Writes what is at a place, and answers the place after it: the same where it was refused.
+fn step(bytes: &[u8], place: usize, samples: &mut [i32]) -> usize
+    requires { ⌜ (place ≤ length (now bytes)) × (length (now samples) ≤ 8192) ⌝ }
+    ensures { λ r. ⌜ (place ≤ r) × (r ≤ length (now (bytes .entry))) ⌝ }
 {
-    let answer = frame::read_frame(bytes, samples);
+    let next = walk::read_next(bytes, place, samples);
+    let answer = next.answer;
     match answer {
         Answer::Frame(f) => {
             write_report(f);
             write_samples(samples, f.channels * f.size);
-            f.consumed
+            next.place
         }
         Answer::Refused(e) => {
             io::write_all(STDOUT_FILENO, &[3, error::number_of(e)]);
-            0
+            place
         }
     }
 }
 
-// Frame after frame. A step that took nothing ends the run; any other leaves fewer bytes.
+// Frame after frame. A step that stays where it was ends the run; any other leaves fewer bytes.
 fn run(bytes: &[u8], samples: &mut [i32])
     requires { ⌜ length (now samples) ≤ 8192 ⌝ }
 {
-    let mut at = 0;
+    let mut place = 0;
     loop {
-        let taken = step(&bytes[at..], samples);
-        if taken == 0 {
+        let next = step(bytes, place, samples);
+        if next == place {
             return;
         }
-        at += taken;
+        place = next;
     }
 }
 

@@ -1,4 +1,4 @@
--- `runner::run` ends, since each step that goes on takes a byte at least, and stays within the bytes. Assumes nothing.
+-- `runner::run` ends, since each step that goes on goes further, and stays within the bytes. Assumes nothing.
 use Prim.Native.Nat.{_-_, _≤_}
 use mathlib.Core.Path.{_≡_}
 use borrow.Author.Needs.{needs}
@@ -7,22 +7,13 @@ use Rattle.runner.proofs.run.Statement.{statement}
 use Rattle.runner.proofs.run.Tie as tie
 
 abbrev Inv-loop : tie.InvT-loop
-Inv-loop bytes samples₀ at₀ samples at = (at ≤ length bytes) × (length samples ≡ length samples₀)
+Inv-loop bytes samples₀ place₀ samples place = (place ≤ length bytes) × (length samples ≡ length samples₀)
 
 abbrev μ-loop : tie.MeasureT-loop
-μ-loop bytes samples₀ at₀ samples at = length bytes - at
+μ-loop bytes samples₀ place₀ samples place = length bytes - place
 
 loop-holds : tie.Need-loop-holds Inv-loop μ-loop
 loop-holds c = search needs
-
-sub-step : tie.Need-sub-step Inv-loop μ-loop
-sub-step c = search needs
-
-part-step-start : tie.Need-part-step-start Inv-loop μ-loop
-part-step-start c = search needs
-
-part-step-end : tie.Need-part-step-end Inv-loop μ-loop
-part-step-end c = search needs
 
 step-requires : tie.Need-step-requires Inv-loop μ-loop
 step-requires c κs = search needs
@@ -33,9 +24,6 @@ same-length c = search needs
 returns : tie.Need-returns Inv-loop μ-loop
 returns c = search needs
 
-add-at : tie.Need-add-at Inv-loop μ-loop
-add-at c = search needs
-
 loop-less : tie.Need-loop-less Inv-loop μ-loop
 loop-less c = search needs
 
@@ -45,16 +33,4 @@ loop-again c = search needs
 pub run-spec : {M : Type 1} → statement M
 run-spec =
     tie.close
-    (tie.spec
-    Inv-loop
-    μ-loop
-    loop-holds
-    sub-step
-    part-step-start
-    part-step-end
-    step-requires
-    same-length
-    returns
-    add-at
-    loop-less
-    loop-again)
+    (tie.spec Inv-loop μ-loop loop-holds step-requires same-length returns loop-less loop-again)

@@ -1,10 +1,11 @@
--- `runner::step` keeps within the buffers: an accepted frame's bytes are there, and its samples are in the buffer.
--- Assumes nothing.
-use Prim.Native.Nat.{_*_, _≤_}
+-- `runner::step` keeps within the buffers: the place after a frame is there, and its samples are in the buffer. Assumes
+-- nothing.
+use Prim.Native.Nat.{_*_, _≤_, _<_}
 use native.Mathlib.Omega.{arith}
+use mathlib.Core.Path.{_≡_}
 use borrow.Author.Needs.{needs}
 use lib.ListN.{length}
-use Rattle.frame.proofs.Taking.{buffer-length, bytes-there, samples-there}
+use Rattle.walk.proofs.OneStep.{buffer-kept, goes-on, stays-inside, samples-lent}
 use Rattle.runner.proofs.step.Statement.{statement}
 use Rattle.runner.proofs.step.Tie as tie
 
@@ -13,16 +14,23 @@ module _ (c : tie.After-answer) where
   abbrev start : tie.Start
   start = c .before .before .before .before .before .before
 
-  taken : c .answer .given .0 .0 .consumed ≤ length (start .args .bytes .now)
-  taken =
-      bytes-there (start .args .bytes .now) (start .args .samples .now) (c .before .before .before .read-frame .ensures) (c .answer .given .1)
+  abbrev read : tie.After-read-next
+  read = c .before .before .before
+
+  further : start .args .place < read .read-next .result .place
+  further = goes-on (start .args .bytes .now) (start .args .place) (start .args .samples .now) (read .read-next .ensures) (c .answer .given .1)
+
+  inside : read .read-next .result .place ≤ length (start .args .bytes .now)
+  inside = stays-inside (start .args .bytes .now) (start .args .place) (start .args .samples .now) (read .read-next .ensures) (c .answer .given .1)
 
   within : c .answer .given .0 .0 .channels * c .answer .given .0 .0 .size ≤ length (start .args .samples .now)
-  within =
-      samples-there (start .args .bytes .now) (start .args .samples .now) (c .before .before .before .read-frame .ensures) (c .answer .given .1)
+  within = samples-lent (start .args .bytes .now) (start .args .place) (start .args .samples .now) (read .read-next .ensures) (c .answer .given .1)
 
-read-frame-requires : tie.Need-read-frame-requires
-read-frame-requires c κs = search needs
+  long : length (read .read-next .last .1 .1 .0) ≡ length (start .args .samples .now)
+  long = buffer-kept (start .args .bytes .now) (start .args .place) (start .args .samples .now) (read .read-next .ensures)
+
+read-next-requires : tie.Need-read-next-requires
+read-next-requires c κs = search needs
 
 enum-known-answer : tie.Need-enum-known-answer
 enum-known-answer c = search needs
@@ -31,13 +39,10 @@ write-report-requires : tie.Need-write-report-requires
 write-report-requires c κs = search needs
 
 mul-write-samples : tie.Need-mul-write-samples
-mul-write-samples c = omega (arith, within (c .before .before .before .before), start (c .before .before .before .before) .pre)
+mul-write-samples c = let k = c .before .before .before .before in omega (arith, within k, start k .pre .1)
 
 write-samples-requires : tie.Need-write-samples-requires
-write-samples-requires c κs =
-    let k = c .before .before .before .before in
-    let long = buffer-length (start k .args .bytes .now) (start k .args .samples .now) (k .before .before .before .read-frame .ensures) in
-    (omega (arith, within k, long), omega (arith, long, start k .pre))
+write-samples-requires c κs = let k = c .before .before .before .before in (omega (arith, within k, long k), omega (arith, long k, start k .pre .1))
 
 enum-known-answer-2 : tie.Need-enum-known-answer-2
 enum-known-answer-2 c = search needs
@@ -55,7 +60,7 @@ same-length : tie.Need-same-length
 same-length c = search needs
 
 returns : tie.Need-returns
-returns c = taken (c .before .before .before .before .before)
+returns c = let k = c .before .before .before .before .before in (omega (arith, further k), inside k)
 
 same-length-2 : tie.Need-same-length-2
 same-length-2 c = search needs
@@ -67,7 +72,7 @@ pub step-spec : {M : Type 1} → statement M
 step-spec =
     tie.close
     (tie.spec
-    read-frame-requires
+    read-next-requires
     enum-known-answer
     write-report-requires
     mul-write-samples

@@ -1,0 +1,74 @@
+-- Each step that goes on takes a byte at least, and stays within the bytes. Assumes nothing.
+use Prim.Native.Nat.{_+_, _-_, _*_, _≤_, _<_}
+use native.Mathlib.Omega.{arith}
+use mathlib.Core.Path.{_≡_, _∙_}
+use borrow.Author.Needs.{needs}
+use lib.ListN.{length}
+use Rattle.walk.proofs.OneStep.{buffer-kept, goes-on, stays-inside, samples-lent}
+use Rattle.frames.proofs.list_frames.Statement.{statement}
+use Rattle.frames.proofs.list_frames.Tie as tie
+
+abbrev Inv-loop : tie.InvT-loop
+Inv-loop bytes base samples₀ place₀ frames₀ count₀ samples place frames count = (place ≤ length bytes) × (length samples ≡ length samples₀)
+
+abbrev μ-loop : tie.MeasureT-loop
+μ-loop bytes base samples₀ place₀ frames₀ count₀ samples place frames count = length bytes - place
+
+loop-holds : tie.Need-loop-holds Inv-loop μ-loop
+loop-holds c = search needs
+
+read-next-requires : tie.Need-read-next-requires Inv-loop μ-loop
+read-next-requires c κs = search needs
+
+enum-known-answer : tie.Need-enum-known-answer Inv-loop μ-loop
+enum-known-answer c = search needs
+
+add-frame-line : tie.Need-add-frame-line Inv-loop μ-loop
+add-frame-line c = search needs
+
+frame-line-requires : tie.Need-frame-line-requires Inv-loop μ-loop
+frame-line-requires c κs = search needs
+
+sum-requires : tie.Need-sum-requires Inv-loop μ-loop
+sum-requires c κs = search needs
+
+mul-sum : tie.Need-mul-sum Inv-loop μ-loop
+mul-sum c = let d = c .before .before .before .before .before .before .before in let a = d .before .before .before .before in omega (arith, samples-lent (a .args .bytes .now) (d .before .before .loop .place) (d .before .before .loop .samples) (d .read-next .ensures) (c .before .before .before .before .answer .given .1), a .good .1 .1 .1 .0)
+
+sum-requires-2 : tie.Need-sum-requires-2 Inv-loop μ-loop
+sum-requires-2 c κs = search needs
+
+loop-less : tie.Need-loop-less Inv-loop μ-loop
+loop-less c = let d = c .before .before .before .before .before .before .before .before in let a = d .before .before .before .before in omega (arith, goes-on (a .args .bytes .now) (d .before .before .loop .place) (d .before .before .loop .samples) (d .read-next .ensures) (c .before .before .before .before .before .answer .given .1), stays-inside (a .args .bytes .now) (d .before .before .loop .place) (d .before .before .loop .samples) (d .read-next .ensures) (c .before .before .before .before .before .answer .given .1))
+
+loop-again : tie.Need-loop-again Inv-loop μ-loop
+loop-again c = let d = c .before .before .before .before .before .before .before .before in let a = d .before .before .before .before in (stays-inside (a .args .bytes .now) (d .before .before .loop .place) (d .before .before .loop .samples) (d .read-next .ensures) (c .before .before .before .before .before .answer .given .1), buffer-kept (a .args .bytes .now) (d .before .before .loop .place) (d .before .before .loop .samples) (d .read-next .ensures) ∙ d .before .before .loop .inv .1)
+
+enum-known-answer-2 : tie.Need-enum-known-answer-2 Inv-loop μ-loop
+enum-known-answer-2 c = search needs
+
+same-length : tie.Need-same-length Inv-loop μ-loop
+same-length c = let d = c .before .before .before .before in let a = d .before .before .before .before in buffer-kept (a .args .bytes .now) (d .before .before .loop .place) (d .before .before .loop .samples) (d .read-next .ensures) ∙ d .before .before .loop .inv .1
+
+returns : tie.Need-returns Inv-loop μ-loop
+returns c = let d = c .before .before .before .before in let a = d .before .before .before .before in d .before .before .loop .inv .0
+
+pub list-frames-spec : {M : Type 1} → statement M
+list-frames-spec =
+    tie.close
+    (tie.spec
+    Inv-loop
+    μ-loop
+    loop-holds
+    read-next-requires
+    enum-known-answer
+    add-frame-line
+    frame-line-requires
+    sum-requires
+    mul-sum
+    sum-requires-2
+    loop-less
+    loop-again
+    enum-known-answer-2
+    same-length
+    returns)

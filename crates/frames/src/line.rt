@@ -1,0 +1,53 @@
+// A line of text that is built up in an array and written in one piece: a write for each word would be slow.
+use libc::STDOUT_FILENO;
+ghost use Rattle.io.specs.Counts.{Counts};
+
+// More than the longest line that is written.
+pub const LINE: usize = 256;
+
+// Puts a text into the line from a place on, and answers the place after it. What there is no room for is left out.
+fn put_in(line: &mut [u8], start: usize, text: &[u8]) -> usize
+    ensures { λ r. ⌜ Counts r (now (line .exit)) ⌝ }
+{
+    let mut n = number::lesser(start, line.len());
+    let mut i = 0;
+    while i < text.len() {
+        if line.len() <= n {
+            return n;
+        }
+        line[n] = text[i];
+        n += 1;
+        i += 1;
+    }
+    n
+}
+
+pub fn put(line: &mut [u8; LINE], start: usize, text: &[u8]) -> usize
+    ensures { λ r. ⌜ Counts r (now (line .exit)) ⌝ }
+{
+    put_in(line, start, text)
+}
+
+// The same for a number's decimal digits.
+pub fn put_number(line: &mut [u8; LINE], start: usize, number: u64) -> usize
+    ensures { λ r. ⌜ Counts r (now (line .exit)) ⌝ }
+{
+    let mut digits = [0u8; 20];
+    let n = io::decimal(number, &mut digits);
+    put(line, start, &digits[..n])
+}
+
+// The same for a text and the number after it.
+pub fn put_field(line: &mut [u8; LINE], start: usize, text: &[u8], number: u64) -> usize
+    ensures { λ r. ⌜ Counts r (now (line .exit)) ⌝ }
+{
+    let n = put(line, start, text);
+    put_number(line, n, number)
+}
+
+// Writes the line up to a place, and the line's end.
+pub fn write_line(line: &mut [u8; LINE], end: usize) {
+    let n = put(line, end, b"\n");
+    let text: &[u8] = line;
+    io::write_all(STDOUT_FILENO, &text[..n]);
+}

@@ -1,0 +1,122 @@
+// The window on the card: what is not read yet moves to its front, and more of the card is read in after it.
+use libc::EINTR;
+ghost use Prim.Native.Nat.{_-_, _≤_, _<_};
+ghost use mathlib.Core.Path.{_≡_};
+ghost use lib.ListN.{length, take, drop};
+ghost use Rattle.frames.specs.Window.{ReadAfter, Fills};
+
+// What one read did: it brought so many bytes; the card has ended; it was interrupted; it failed, with the system's number.
+pub enum Got {
+    Bytes(usize),
+    Ended,
+    Interrupted,
+    Failed(i32),
+}
+
+// What comes after the bytes that the window holds: more, perhaps; the card's end; or a read that failed, with the system's
+// number.
+pub enum Rest {
+    More,
+    Ended,
+    Failed(i32),
+}
+
+// How many bytes the window holds, and what comes after them.
+pub struct Filled {
+    pub held: usize,
+    pub rest: Rest,
+}
+
+// How often a read that was interrupted is made again, between two that bring something.
+const TRIES: u32 = 1000000;
+
+// The bytes from `used` to `held` stand at the front afterwards.
+pub fn shift(window: &mut [u8], used: usize, held: usize)
+    requires { ⌜ (used ≤ held) × (held ≤ length (now window)) ⌝ }
+    ensures { λ _. ⌜ take (held - used) (now (window .exit)) ≡ take (held - used) (drop used (now (window .entry))) ⌝ }
+{
+    if used == 0 {
+        return;
+    }
+    let rest = held - used;
+    let mut i = 0;
+    while i < rest {
+        window[i] = window[used + i];
+        i += 1;
+    }
+}
+
+// One read after the bytes that are held, which stay as they are.
+fn read_once(fd: i32, window: &mut [u8], held: usize) -> Got
+    requires { ⌜ held < length (now window) ⌝ }
+    ensures { λ r. ⌜ ReadAfter (now (window .entry)) held r (now (window .exit)) ⌝ }
+{
+    let got = libc::read(fd, &mut window[held..]);
+    if got < 0 {
+        let error = os::errno();
+        if error == EINTR {
+            return Got::Interrupted;
+        }
+        return Got::Failed(error);
+    }
+    let n = io::count(got, &window[held..]);
+    if n == 0 {
+        return Got::Ended;
+    }
+    Got::Bytes(n)
+}
+
+// Reads on after the bytes that are held, which stay as they are, until `wanted` bytes are held or no more can be had.
+pub fn fill(fd: i32, window: &mut [u8], before: usize, wanted: usize) -> Filled
+    requires { ⌜ (before ≤ length (now window)) × (wanted ≤ length (now window)) ⌝ }
+    ensures { λ r. ⌜ Fills (now (window .entry)) before wanted r (now (window .exit)) ⌝ }
+{
+    let mut held = before;
+    let mut tries = TRIES;
+    while held < wanted {
+        let got = read_once(fd, window, held);
+        match got {
+            Got::Bytes(n) => held += n,
+            Got::Ended => {
+                return Filled {
+                    held,
+                    rest: Rest::Ended,
+                };
+            }
+            Got::Interrupted => {
+                if tries == 0 {
+                    return Filled {
+                        held,
+                        rest: Rest::Failed(EINTR),
+                    };
+                }
+                tries -= 1;
+            }
+            Got::Failed(error) => {
+                return Filled {
+                    held,
+                    rest: Rest::Failed(error),
+                };
+            }
+        }
+    }
+    Filled {
+        held,
+        rest: Rest::More,
+    }
+}
+
+// How many bytes to want where so many were too few: twice as many, so that a long frame that comes in small pieces is read
+// again only a few times, and each byte is moved once at most; and no more than there is room for.
+pub fn next_wanted(left: usize, room: usize) -> usize
+    requires { ⌜ left < room ⌝ }
+    ensures { λ r. ⌜ (left < r) × (r ≤ room) ⌝ }
+{
+    if left == 0 {
+        return 1;
+    }
+    if room - left < left {
+        return room;
+    }
+    left + left
+}
