@@ -1,15 +1,68 @@
 #!/bin/sh
-# Lists the frames of a card: sh frames.sh FILE, or the small card of this repository where no file is named.
-# It proves and builds what it needs first.
+# Lists the frames of a card, and says how it ended: sh frames.sh [FILE | -]. It first proves and builds what has changed.
+#
+# The last line starts with one word, and the exit status goes by it:
+#     0   ended:              the card ends after a frame
+#     1   stopped: empty:     something on the card is no frame; the card has no bytes
+#     2   unread: limit:      the card could not be read; a limit of the program ended the run
+# Besides, 2 is bad usage, a file that is not there, another kit, or a program that does not build.
 set -u
+usage="usage: sh frames.sh [FILE | -]
+Lists the frames of the card FILE, of standard input for '-', or of the repository's cases/card.bin.
+Status 0: the card ends after a frame. 1: something on it is refused, or it is empty. 2: it could not be read, or a limit
+of the program ended the run."
+
+fail() { # WORDS
+    echo "frames.sh: $1" >&2
+    exit 2
+}
+
 here=$(cd "$(dirname "$0")" && pwd) || exit 2
-case ${1:-} in '') card=$here/cases/card.bin ;; /*) card=$1 ;; *) card=$PWD/$1 ;; esac
-cd "$here" || exit 2
-log=$(mktemp) || exit 2
-trap 'rm -f "$log"' EXIT
-echo "proving and building the reader (some minutes on a fresh clone)" >&2
-if ! rt check frames >"$log" 2>&1; then
-    tail -n 5 "$log" >&2
-    exit 1
+[ $# -gt 0 ] || set -- "$here/cases/card.bin"
+[ $# -eq 1 ] || {
+    echo "$usage" >&2
+    exit 2
+}
+case $1 in
+-h | --help)
+    echo "$usage"
+    exit
+    ;;
+-) card='' ;;
+-*)
+    echo "$usage" >&2
+    exit 2
+    ;;
+'') fail "the file's name is empty" ;;
+/*) card=$1 ;;
+*) card=$PWD/$1 ;;
+esac
+if [ -n "$card" ]; then
+    [ -e "$card" ] || fail "there is no file '$card'"
+    [ ! -d "$card" ] || fail "'$card' is a directory"
+    [ -r "$card" ] || fail "'$card' may not be read"
 fi
-sh run.sh frames <"$card"
+
+cd "$here" || exit 2
+. ./kit.sh
+hold_kit frames.sh
+program=target/bin/frames
+if [ ! -f "$program" ] || [ -n "$(find crates crates.txt -newer "$program" | head -n 1)" ]; then
+    echo "frames.sh: proving and building the reader (some minutes on a fresh clone)" >&2
+    work=$(mktemp -d) || exit 2
+    trap 'rm -rf "$work"' EXIT
+    : >"$work/started"
+    if ! rt check frames >"$work/log" 2>&1; then
+        tail -n 5 "$work/log" >&2
+        fail "the reader does not build"
+    fi
+    touch -r "$work/started" "$program"
+fi
+sh run.sh frames ${card:+"$card"} | awk '
+    { print; word = $1 }
+    END {
+        if (word == "ended:") exit 0
+        if (word == "stopped:" || word == "empty:") exit 1
+        if (word != "unread:" && word != "limit:") print "frames.sh: the program ended badly, without a last line" > "/dev/stderr"
+        exit 2
+    }'

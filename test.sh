@@ -6,16 +6,8 @@
 set -u
 cd "$(dirname "$0")" || exit 2
 
-if ! command -v rt >/dev/null 2>&1; then
-    echo "test.sh: the Rattle kit's command 'rt' is not on the PATH; README.md, 'What you need', says which kit" >&2
-    exit 2
-fi
-wanted=$(sed -n 's/^Kit: `\(.*\)`$/\1/p' README.md)
-found=$(rt version)
-if [ "$wanted" != "$found" ]; then
-    echo "test.sh: README.md names the kit '$wanted', and this is '$found': proofs may differ; use the named kit, or check all with this one and change that line" >&2
-    exit 2
-fi
+. ./kit.sh
+hold_kit test.sh
 if ! rt fmt --check; then
     echo "test.sh: not in the formatter's layout: run 'rt fmt'" >&2
     exit 1

@@ -28,7 +28,8 @@ ghost use lib.ListN.{length};
 ghost use Rattle.frames.specs.declared.window.Rest.{Rest as RestOf};
 ghost use Rattle.frames.specs.Cards.{Sound, Followed, Stays, Refills, Advances};
 
-// Bytes of the card that are at hand at a time. Eight channels of 65,535 samples of 24 bits stored verbatim take 1,572,867.
+// Bytes of the card that are at hand at a time. Eight channels of 65,535 samples of 24 bits stored verbatim take
+// 1,572,866 bytes at most.
 pub const WINDOW: usize = 2097152;
 
 // Room for eight channels of 65,535 samples, so that no frame has more.
