@@ -62,6 +62,8 @@ run rt ci
 for program in runner read_probe write_probe; do
     run sh cases/run.sh "$program"
 done
+# Cards of the sizes that users have, for the main command.
+run sh cases/frames.sh
 # The fixed list of claxon's answers, for which no Rust is wanted.
 run sh cases/run.sh runner oracle
 # Side by side with claxon and flac, and the bindings, where Rust, claxon's source, flac and cc are at hand.
