@@ -2,4 +2,5 @@
 pub mod Shifting
 pub mod Filling
 pub mod Streams
+pub mod Listings
 pub mod Turning

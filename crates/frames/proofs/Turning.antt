@@ -1,65 +1,234 @@
--- A turn goes further: it brings a byte, or finds out that no more are to be had. Assumes nothing.
+-- A turn goes further, and what is listed of the card stays what it was. Assumes nothing.
 use Prim.Native.Nat.{ℕ, _+_, _-_, _*_, _^_, _≤_, _<_}
 use native.Mathlib.Omega.{arith}
-use mathlib.Core.Path.{_≡_, refl, ap, sym, _∙_, subst}
-use mathlib.Core.List.{List}
-use lib.ListN.{length, take, drop}
+use mathlib.Core.Path.{_≡_, refl, ap, ap₂, sym, _∙_, subst}
+use mathlib.Core.List.{List, [], _∷_, _++_, append-assoc, append-nil}
+use lib.ListN.{length, take, drop, length-append, length-drop, take-append-drop}
+use lib.Seq.{take-take, length-take-le, take-add, drop-at}
+use Rattle.error.specs.declared.Refusal.{Refusal}
+use Rattle.error.specs.declared.Refusal.the-variants.{NothingLeft, CutShort, NotSync, Reserved, BadNumber, HeaderSum, NoRoom, NotDone, BadShape, FrameSum, BadArgument, SampleRange, OutputRoom}
+use Rattle.error.specs.declared.Need.{Need}
+use Rattle.error.specs.Numbers.{numberOf}
+use Rattle.error.specs.Needs.{needsOf}
+use Rattle.rfc9639.specs.FrameByFrame.{Kind, undecided, refused, kindOf}
+use Rattle.demands.proofs.FrameByFrame.{lawful}
 use Rattle.frames.specs.declared.window.Rest.{Rest}
 use Rattle.frames.specs.declared.window.Filled.{Filled}
+use Rattle.frames.specs.declared.Totals.{Totals}
 use Rattle.frames.specs.declared.Card.{Card}
+use Rattle.frames.specs.declared.Listed.{Listed}
+use Rattle.frames.specs.declared.How.{How}
+use Rattle.frames.specs.declared.Last.{Last}
 use Rattle.frames.specs.declared.Turn.{Turn}
 use Rattle.frames.specs.Window.{Enough, Fills}
-use Rattle.frames.specs.Cards.{Sound, pending, ahead, Followed, Stays, Continues, Refills, Advances}
+use Rattle.frames.specs.Listing.{Listing, listed, Lists}
+use Rattle.frames.specs.Cards.{Sound, pending, ahead, Stays, Continues, Wanting, Closes, Refills, Carries, ending, Unfinished, Told, Stops, Turns, Runs}
+use Rattle.frames.proofs.Listings.{goes-on-from, stands-there}
 
-module _ (was : List ℕ) (card : Card) (place : ℕ) (sound : Sound card (length was)) (inside : place ≤ card .held) (more : card .rest ≡ Rest.More) where
+-- ---- the window's bytes
+
+module _ (was : List ℕ) (card : Card) (place : ℕ) (e : Refusal) (sound : Sound card (length was)) (inside : place ≤ card .held) (more : card .rest ≡ Rest.More) where
   one-pending : pending (card .rest) ≡ 1
   one-pending = ap pending more
 
   -- where the window is full the place is its front
-  pub full-refills : card .held - place ≡ length was → (r : Turn) → Stays card r → Refills was card place r was
-  full-refills full Turn.Over s = tt
+  pub full-refills : card .held - place ≡ length was → (r : Turn) → Stays card place r → Refills was card place e r was
+  full-refills full (Turn.Over last) s =
+      record { card = ap (λ (l : Last). l .card) s; place = ap (λ (l : Last). l .place) s; how = subst (λ (l : Last). Wanting e (l .how)) (sym s) tt }
   full-refills full (Turn.On next) s =
-      let z : place ≡ 0 = omega (arith, sound .inside) in (
-        record {
-          bytes = rw z refl;
-          least = omega (arith, s .0 .held);
-          base = omega (arith, s .0 .base);
-          totals = s .0 .totals;
-        },
-        record { inside = omega (arith, s .0 .held, sound .inside); numbered = omega (arith, s .0 .base, sound .numbered) },
-        omega (arith, s .0 .base, s .0 .held, s .1, one-pending, sound .inside, sound .numbered),
-      )
+      let z : place ≡ 0 = omega (arith, sound .inside) in
+      record {
+        bytes = rw z refl;
+        least = omega (arith, s .1);
+        base = omega (arith, s .0);
+        totals = s .2;
+        sound = record { inside = omega (arith, s .1, sound .inside); numbered = omega (arith, s .0, sound .numbered) };
+        further = omega (arith, s .0, s .1, s .3, one-pending, sound .inside, sound .numbered);
+      }
 
   module _ (moved left : List ℕ) (filled : Filled) (wanted : ℕ) (long : length moved ≡ length was)
       (shifted : take (card .held - place) moved ≡ take (card .held - place) (drop place was)) (fills : Fills moved (card .held - place) wanted filled left)
       (some : card .held - place < wanted) (wide : card .base + place + length was < 2 ^ 64) where
-    abbrev next : Card
-    next = record { base = card .base + place; held = filled .held; rest = filled .rest; totals = card .totals }
-
     less : (rest : Rest) → Enough rest wanted (filled .held)
         → (2 ^ 64 - (card .base + place + filled .held)) * 2 + pending rest < (2 ^ 64 - (card .base + card .held)) * 2 + 1
     less Rest.More enough = omega (arith, fills .most, fills .least, long)
     less Rest.Ended enough = omega (arith, fills .most, fills .least, long)
     less (Rest.Failed error) enough = omega (arith, fills .most, fills .least, long)
 
-    pub go-refills : Refills was card place (Turn.On next) left
-    go-refills = (
-      record {
-        bytes = fills .kept ∙ shifted;
-        least = fills .least;
-        base = refl;
-        totals = refl;
-      },
-      record { inside = omega (arith, fills .most, long); numbered = wide },
-      omega (arith, less (filled .rest) (fills .enough), one-pending),
-    )
+    pub go-refills : Continues was card place (record { base = card .base + place; held = filled .held; rest = filled .rest; totals = card .totals }) left
+    go-refills = record {
+      bytes = fills .kept ∙ shifted;
+      least = fills .least;
+      base = refl;
+      totals = refl;
+      sound = record { inside = omega (arith, fills .most, long); numbered = wide };
+      further = omega (arith, less (filled .rest) (fills .enough), one-pending);
+    }
 
--- ---- for the loop of turns
+-- ---- what a refusal asks for, and its kind
 
-pub advances : (was left : List ℕ) (card counted : Card) (place : ℕ) → ahead counted ≡ ahead card → (r : Turn) → Refills was counted place r left
-    → Advances card r (length was)
-advances was left card counted place e (Turn.On c) h = (h .1, omega (arith, h .2))
-advances was left card counted place e Turn.Over h = tt
+unfoldable pub kindFor : Need → Kind
+kindFor Need.Wait = undecided
+kindFor Need.Room = refused
+kindFor Need.Final = refused
 
-pub goes-further : (card next : Card) (room : ℕ) (r : Turn) → Advances card r room → r ≡ Turn.On next → Sound next room × (ahead next < ahead card)
-goes-further card next room r h e = subst (λ t. Advances card t room) e h
+kind-needs : (e : Refusal) → kindOf (numberOf e) ≡ kindFor (needsOf e)
+unfolding kindOf kindFor
+kind-needs NothingLeft = refl
+kind-needs CutShort = refl
+kind-needs NotSync = refl
+kind-needs Reserved = refl
+kind-needs BadNumber = refl
+kind-needs HeaderSum = refl
+kind-needs NoRoom = refl
+kind-needs NotDone = refl
+kind-needs BadShape = refl
+kind-needs FrameSum = refl
+kind-needs BadArgument = refl
+kind-needs SampleRange = refl
+kind-needs OutputRoom = refl
+
+waits : (e : Refusal) → needsOf e ≡ Need.Wait → kindOf (numberOf e) ≡ undecided
+unfolding kindFor
+waits e w = kind-needs e ∙ ap kindFor w
+
+decided : (e : Refusal) (n : Need) → needsOf e ≡ n → kindFor n ≡ refused → kindOf (numberOf e) ≡ undecided → ⊥
+decided e n is k u = let r = kind-needs e ∙ ap kindFor is ∙ k in let z : _≡_ {A = ℕ} 0 1 = cc in omega arith
+
+-- ---- what is listed
+
+drop-take : (k m : ℕ) (l : List ℕ) → k ≤ m → k ≤ length l → drop k (take m l) ≡ take (m - k) (drop k l)
+drop-take k m l h g =
+    let e : m ≡ k + (m - k) = omega arith in
+    ap (λ n. drop k (take n l)) e ∙ ap (drop k) (take-add k (m - k) l) ∙ drop-at (take k l) (take (m - k) (drop k l)) k (length-take-le k l g)
+
+module _ (room : ℕ) (was : List ℕ) (card : Card) (r : Listed) (sound : Sound card (length was)) (lists : Lists (take (card .held) was) (card .base) (card .totals) room r) where
+  abbrev w : List ℕ
+  w = take (card .held) was
+
+  -- the card with the window's frames counted
+  abbrev read : Card
+  read = record { base = card .base; held = card .held; rest = card .rest; totals = r .totals }
+
+  pub place-inside : r .place ≤ card .held
+  place-inside = omega (arith, lists .inside, length-take-le (card .held) was (sound .inside))
+
+  module _ (wait : needsOf (r .refusal) ≡ Need.Wait) where
+    from-there : (more : List ℕ) → listed room (card .base) (card .totals) (w ++ more) ≡ listed room (card .base + r .place) (r .totals) (drop (r .place) w ++ more)
+    from-there = goes-on-from (lawful (record { room = room })) (card .base) (card .totals) w (r .place) (lists .all) (waits (r .refusal) wait)
+
+    module _ (next : Card) (left : List ℕ) (long : length left ≡ length was) (c : Continues was read (r .place) next left) where
+      abbrev kept : ℕ
+      kept = card .held - r .place
+
+      abbrev brought : List ℕ
+      brought = drop kept (take (next .held) left)
+
+      front : drop (r .place) w ++ brought ≡ take (next .held) left
+      front =
+          ap (λ (l : List ℕ). l ++ brought)
+          (drop-take (r .place) (card .held) was place-inside (omega (arith, place-inside, sound .inside)) ∙ sym (c .bytes) ∙ sym (take-take kept (next .held) left (c .least)))
+          ∙ take-append-drop kept (take (next .held) left)
+
+      carries : Carries room was card next left
+      carries = record {
+        brought = brought;
+        long =
+            omega (arith, c .base, c .least, place-inside, length-drop kept (take (next .held) left), length-take-le (next .held) left (omega (arith, c .sound .inside)));
+        same = λ more.
+            from-there (brought ++ more)
+            ∙ ap (λ (l : List ℕ). listed room (card .base + r .place) (r .totals) l) (sym (append-assoc (drop (r .place) w) brought more) ∙ ap (λ (l : List ℕ). l ++ more) front)
+            ∙ ap₂ (λ b (t : Totals). listed room b t (take (next .held) left ++ more)) (sym (c .base)) (sym (c .totals));
+        sound = c .sound;
+        further = c .further;
+      }
+
+    module _ (last : Last) (c : Closes read (r .place) (r .refusal) last) where
+      same-end : (f : Card → ℕ → Listing) → f read (r .place) ≡ f (last .card) (last .place)
+      same-end f = ap₂ f (sym (c .card)) (sym (c .place))
+
+      unfinished : Unfinished room (card .base) (card .totals) w last
+      unfinished = record {
+        rest = drop (r .place) w;
+        same = λ more. from-there more ∙ same-end (λ k p. listed room (k .base + p) (k .totals) (drop (r .place) w ++ more));
+      }
+
+      told : (how : How) → Wanting (r .refusal) how → Told room (card .base) (card .totals) w last how
+      told (How.Ended x) e = lists .all ∙ ap (λ y. record { place = card .base + r .place; totals = r .totals; number = numberOf y }) (sym e) ∙ same-end (λ k p. record { place = k .base + p; totals = k .totals; number = numberOf x })
+      told (How.Refused x) e = absurd e
+      told (How.Unread error) e = unfinished
+      told How.TooLong e = unfinished
+      told How.TooFar e = unfinished
+
+      stops : Stops room was card last
+      stops = record {
+        base = ap (λ (k : Card). k .base) (c .card);
+        held = ap (λ (k : Card). k .held) (c .card);
+        inside = omega (arith, c .place, place-inside);
+        told = told (last .how) (c .how);
+      }
+
+    pub turns : (left : List ℕ) → length left ≡ length was → (t : Turn) → Refills was read (r .place) (r .refusal) t left → Turns room was card t left
+    turns left long (Turn.On next) c = carries next left long c
+    turns left long (Turn.Over last) c = stops last c
+
+  pub refused-stops : (n : Need) → needsOf (r .refusal) ≡ n → kindFor n ≡ refused
+      → Stops room was card (record { card = read; place = r .place; how = How.Refused (r .refusal) })
+  refused-stops n is k = record {
+    base = refl;
+    held = refl;
+    inside = place-inside;
+    told = stands-there (lawful (record { room = room })) (card .base) (card .totals) w (r .place) (lists .all) (decided (r .refusal) n is k);
+  }
+
+-- ---- from the card's first byte
+
+module _ (room room′ : ℕ) (e : room ≡ room′) (was : List ℕ) (card : Card) where
+  pub carried : (next : Card) (left : List ℕ) (r : Turn) → r ≡ Turn.On next → Turns room was card r left → Carries room′ was card next left
+  carried next left r is h = subst (λ n. Carries n was card next left) e (subst (λ (t : Turn). Turns room was card t left) is h)
+
+  pub stopped : (last : Last) (left : List ℕ) (r : Turn) → r ≡ Turn.Over last → Turns room was card r left → Stops room′ was card last
+  stopped last left r is h = subst (λ n. Stops n was card last) e (subst (λ (t : Turn). Turns room was card t left) is h)
+
+-- the bytes that were read, and that the window and those before it show all of them
+pub record SoFar (room : ℕ) (w : List ℕ) (card : Card) : Type 0 where
+  pub seen : List ℕ
+  pub long : length seen ≡ card .base + card .held
+  pub same : (more : List ℕ)
+      → listed room 0 (record { frames = 0; samples = 0 }) (seen ++ more) ≡ listed room (card .base) (card .totals) (take (card .held) w ++ more)
+
+pub begin : (room : ℕ) (w : List ℕ) → SoFar room w (record { base = 0; held = 0; rest = Rest.More; totals = record { frames = 0; samples = 0 } })
+begin room w = record { seen = []; long = refl; same = λ more. refl }
+
+module _ (room : ℕ) (w : List ℕ) (card : Card) (far : SoFar room w card) where
+  -- further with each turn
+  pub on : (next : Card) (left : List ℕ) → Carries room w card next left → SoFar room left next
+  on next left c = record {
+    seen = far .seen ++ c .brought;
+    long = omega (arith, length-append (far .seen) (c .brought), far .long, c .long);
+    same = λ more.
+        ap (listed room 0 (record { frames = 0; samples = 0 })) (append-assoc (far .seen) (c .brought) more) ∙ far .same (c .brought ++ more) ∙ c .same more;
+  }
+
+  bare : listed room 0 (record { frames = 0; samples = 0 }) (far .seen) ≡ listed room (card .base) (card .totals) (take (card .held) w)
+  bare =
+      ap (listed room 0 (record { frames = 0; samples = 0 })) (sym (append-nil (far .seen))) ∙ far .same []
+      ∙ ap (listed room (card .base) (card .totals)) (append-nil (take (card .held) w))
+
+  all-told : (last : Last) (how : How) → Told room (card .base) (card .totals) (take (card .held) w) last how
+      → Told room 0 (record { frames = 0; samples = 0 }) (far .seen) last how
+  all-told last (How.Ended x) h = bare ∙ h
+  all-told last (How.Refused x) h = λ more. far .same more ∙ h more
+  all-told last (How.Unread error) h = record { rest = h .rest; same = λ more. far .same more ∙ h .same more }
+  all-told last How.TooLong h = record { rest = h .rest; same = λ more. far .same more ∙ h .same more }
+  all-told last How.TooFar h = record { rest = h .rest; same = λ more. far .same more ∙ h .same more }
+
+  -- to the last
+  pub over : (width : ℕ) → Sound card width → (last : Last) → Stops room w card last → Runs room last width
+  over width sound last s = record {
+    seen = far .seen;
+    long = omega (arith, far .long, s .base, s .held);
+    told = all-told last (last .how) (s .told);
+    sound = record { inside = omega (arith, s .held, sound .inside); numbered = omega (arith, s .base, sound .numbered) };
+    inside = omega (arith, s .held, s .inside);
+  }

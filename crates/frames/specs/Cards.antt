@@ -1,11 +1,17 @@
--- How far a card has been read, and that each turn goes further.
+-- How far a card has been read, that each turn goes further, and that a turn leaves what is listed of the card as it was.
 use Prim.Native.Nat.{ℕ, _+_, _-_, _*_, _^_, _≤_, _<_}
 use mathlib.Core.Path.{_≡_}
-use mathlib.Core.List.{List}
+use mathlib.Core.List.{List, [], _++_}
 use lib.ListN.{length, take, drop}
+use Rattle.error.specs.declared.Refusal.{Refusal}
+use Rattle.error.specs.Numbers.{numberOf}
 use Rattle.frames.specs.declared.window.Rest.{Rest}
+use Rattle.frames.specs.declared.Totals.{Totals}
 use Rattle.frames.specs.declared.Card.{Card}
+use Rattle.frames.specs.declared.How.{How}
+use Rattle.frames.specs.declared.Last.{Last}
 use Rattle.frames.specs.declared.Turn.{Turn}
+use Rattle.frames.specs.Listing.{Listing, listed}
 
 -- what is held is in the window, and every place of the window has a number on the card
 pub record Sound (card : Card) (room : ℕ) : Type 0 where
@@ -21,17 +27,7 @@ pending (Rest.Failed error) = 0
 abbrev pub ahead : Card → ℕ
 ahead card = (2 ^ 64 - (card .base + card .held)) * 2 + pending (card .rest)
 
--- the window as it is, with something else after it
-pub record Followed (card : Card) (after : Rest) (next : Card) : Type 0 where
-  pub base : next .base ≡ card .base
-  pub held : next .held ≡ card .held
-  pub rest : next .rest ≡ after
-  pub totals : next .totals ≡ card .totals
-
--- and then no more
-abbrev pub Stays : Card → Turn → Type 0
-Stays card (Turn.On next) = Followed card (next .rest) next × (pending (next .rest) ≡ 0)
-Stays card Turn.Over = Unit {0}
+-- ---- the window's bytes
 
 -- After a refill the window goes on where the card was left: the bytes from the place on stand at its front.
 pub record Continues (was : List ℕ) (card : Card) (place : ℕ) (next : Card) (left : List ℕ) : Type 0 where
@@ -39,11 +35,77 @@ pub record Continues (was : List ℕ) (card : Card) (place : ℕ) (next : Card) 
   pub least : card .held - place ≤ next .held
   pub base : next .base ≡ card .base + place
   pub totals : next .totals ≡ card .totals
+  pub sound : Sound next (length was)
+  pub further : ahead next < ahead card
 
-abbrev pub Refills : List ℕ → Card → ℕ → Turn → List ℕ → Type 0
-Refills was card place (Turn.On next) left = Continues was card place next left × Sound next (length was) × (ahead next < ahead card)
-Refills was card place Turn.Over left = Unit {0}
+-- where the run ends for want of bytes it ends at that place, and with that refusal if the card does
+abbrev pub Wanting : Refusal → How → Type 0
+Wanting e (How.Ended x) = x ≡ e
+Wanting e (How.Refused x) = ⊥
+Wanting e (How.Unread error) = Unit {0}
+Wanting e How.TooLong = Unit {0}
+Wanting e How.TooFar = Unit {0}
 
-abbrev pub Advances : Card → Turn → ℕ → Type 0
-Advances card (Turn.On next) room = Sound next room × (ahead next < ahead card)
-Advances card Turn.Over room = Unit {0}
+pub record Closes (c : Card) (at : ℕ) (e : Refusal) (last : Last) : Type 0 where
+  pub card : last .card ≡ c
+  pub place : last .place ≡ at
+  pub how : Wanting e (last .how)
+
+-- the window as it is, with no more after it, or the end since there is more
+abbrev pub Stays : Card → ℕ → Turn → Type 0
+Stays card place (Turn.On next) =
+    (next .base ≡ card .base) × (next .held ≡ card .held) × (next .totals ≡ card .totals) × (pending (next .rest) ≡ 0)
+Stays card place (Turn.Over last) = last ≡ record { card = card; place = place; how = How.TooLong }
+
+abbrev pub Refills : List ℕ → Card → ℕ → Refusal → Turn → List ℕ → Type 0
+Refills was card place e (Turn.On next) left = Continues was card place next left
+Refills was card place e (Turn.Over last) left = Closes card place e last
+
+-- ---- what is listed
+
+-- A turn that goes on read some bytes; whatever follows them, what is listed from there on is what was to be listed.
+pub record Carries (room : ℕ) (was : List ℕ) (card next : Card) (left : List ℕ) : Type 0 where
+  pub brought : List ℕ
+  pub long : next .base + next .held ≡ card .base + card .held + length brought
+  pub same : (more : List ℕ)
+      → listed room (card .base) (card .totals) (take (card .held) was ++ (brought ++ more))
+      ≡ listed room (next .base) (next .totals) (take (next .held) left ++ more)
+  pub sound : Sound next (length was)
+  pub further : ahead next < ahead card
+
+-- the run's end, with a refusal
+abbrev pub ending : Last → Refusal → Listing
+ending last e = record { place = last .card .base + last .place; totals = last .card .totals; number = numberOf e }
+
+-- the frames are listed up to the run's end, and others may follow
+pub record Unfinished (room place : ℕ) (t : Totals) (s : List ℕ) (last : Last) : Type 0 where
+  pub rest : List ℕ
+  pub same : (more : List ℕ) → listed room place t (s ++ more) ≡ listed room (last .card .base + last .place) (last .card .totals) (rest ++ more)
+
+-- What the run's end says of bytes from a place of the card on: where the card ends after them, that this is all of it; of
+-- a refusal, that it stands whatever follows; else that nothing was left out so far.
+abbrev pub Told : ℕ → ℕ → Totals → List ℕ → Last → How → Type 0
+Told room place t s last (How.Ended e) = listed room place t s ≡ ending last e
+Told room place t s last (How.Refused e) = (more : List ℕ) → listed room place t (s ++ more) ≡ ending last e
+Told room place t s last (How.Unread error) = Unfinished room place t s last
+Told room place t s last How.TooLong = Unfinished room place t s last
+Told room place t s last How.TooFar = Unfinished room place t s last
+
+-- A turn that ends the run: in this window.
+pub record Stops (room : ℕ) (was : List ℕ) (card : Card) (last : Last) : Type 0 where
+  pub base : last .card .base ≡ card .base
+  pub held : last .card .held ≡ card .held
+  pub inside : last .place ≤ card .held
+  pub told : Told room (card .base) (card .totals) (take (card .held) was) last (last .how)
+
+abbrev pub Turns : ℕ → List ℕ → Card → Turn → List ℕ → Type 0
+Turns room was card (Turn.On next) left = Carries room was card next left
+Turns room was card (Turn.Over last) left = Stops room was card last
+
+-- The whole run: what its end says of the bytes that were read.
+pub record Runs (room : ℕ) (last : Last) (width : ℕ) : Type 0 where
+  pub seen : List ℕ
+  pub long : length seen ≡ last .card .base + last .card .held
+  pub told : Told room 0 (record { frames = 0; samples = 0 }) seen last (last .how)
+  pub sound : Sound (last .card) width
+  pub inside : last .place ≤ last .card .held

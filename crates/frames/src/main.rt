@@ -7,10 +7,11 @@
 //     stopped:   what stands at a place of the card is no frame: the refusal's number, and its cause
 //     unread:    the card could not be opened or read: the system's number for the error
 //     limit:     a limit of this program ended the run, and not the card
-// After it come 'N frames, M samples; ' (M is the sum of channels times block size, and 2^64 - 1 where it is more).
+// After it come 'frames N, samples M; ' (M is the sum of channels times block size, and 2^64 - 1 where it is more).
 //
-// The card may have any length: it goes through a window that is refilled. A refusal that more bytes may change is said only
-// where the card has ended, and any other at once, since no bytes change it.
+// The card may have any length: it goes through a window that is refilled. A refusal that more bytes may change is said
+// only where the card has ended, and any other at once, since no bytes change it. That the window changes nothing is
+// proved: what the run comes to is what the definition's answers to all of the card's bytes come to (`Runs`).
 mod line;
 mod report;
 mod stream;
@@ -26,7 +27,8 @@ ghost use Prim.Native.Nat.{_+_, _^_, _<_, _≤_};
 ghost use mathlib.Core.Path.{_≡_};
 ghost use lib.ListN.{length};
 ghost use Rattle.frames.specs.declared.window.Rest.{Rest as RestOf};
-ghost use Rattle.frames.specs.Cards.{Sound, Followed, Stays, Refills, Advances};
+ghost use Rattle.frames.specs.Listing.{capped, Lists};
+ghost use Rattle.frames.specs.Cards.{Sound, Stays, Refills, Turns, Runs};
 
 // Bytes of the card that are at hand at a time. Eight channels of 65,535 samples of 24 bits stored verbatim take
 // 1,572,866 bytes at most.
@@ -57,50 +59,211 @@ pub struct Listed {
     pub totals: Totals,
 }
 
+// How the run ended.
+pub enum How {
+    // The card ends, with nothing left or in the middle of a frame.
+    Ended(Refusal),
+    // What stands there is no frame, whatever follows.
+    Refused(Refusal),
+    // A read failed, with the system's number.
+    Unread(i32),
+    // What stands there fills the window, and the card goes on.
+    TooLong,
+    // The card goes on past the places that have a number of 64 bits.
+    TooFar,
+}
+
+// Where the run ended: the window, with how much there was up to a place of it, that place, and how.
+pub struct Last {
+    pub card: Card,
+    pub place: usize,
+    pub how: How,
+}
+
+// Whether there is more to read.
+pub enum Turn {
+    On(Card),
+    Over(Last),
+}
+
 // A card that was opened, or the system's number for why not.
 pub enum Opened {
     At(i32),
     Failed(i32),
 }
 
-// Whether there is more to read.
-pub enum Turn {
-    On(Card),
-    Over,
-}
-
-fn sum(a: u64, b: u64) -> u64 {
+fn sum(a: u64, b: u64) -> u64
+    ensures { λ r. ⌜ r ≡ capped (a + b) ⌝ }
+{
     if b <= u64::MAX - a { a + b } else { u64::MAX }
 }
 
 // Lists the frames that stand whole in the bytes, whose first is at `base` on the card.
 fn list_frames(bytes: &[u8], base: u64, before: Totals, samples: &mut [i32]) -> Listed
     requires { ⌜ base + length (now bytes) < 2 ^ 64 ⌝ }
-    ensures { λ r. ⌜ r .place ≤ length (now (bytes .entry)) ⌝ }
+    ensures { λ r. ⌜ Lists (now (bytes .entry)) base before (length (now (samples .entry))) r ⌝ }
 {
     let mut place = 0;
-    let mut frames = before.frames;
-    let mut count = before.samples;
+    let mut totals = before;
     loop {
         let step = walk::read_next(bytes, place, samples);
         let answer = step.answer;
         match answer {
             Answer::Frame(f) => {
                 report::frame_line(base + place as u64, f);
-                frames = sum(frames, 1);
-                count = sum(count, (f.channels * f.size) as u64);
+                totals = Totals {
+                    frames: sum(totals.frames, 1),
+                    samples: sum(totals.samples, (f.channels * f.size) as u64),
+                };
                 place = step.place;
             }
             Answer::Refused(refusal) => {
                 return Listed {
                     place,
                     refusal,
-                    totals: Totals {
-                        frames,
-                        samples: count,
-                    },
+                    totals,
                 };
             }
+        }
+    }
+}
+
+// What comes after a window that is full.
+fn rest_after(fd: i32) -> Rest {
+    let mut one = [0u8; 1];
+    let next = window::fill(fd, &mut one, 0, 1);
+    next.rest
+}
+
+// The window is full from this place on, which is its front, of what may be one frame.
+fn full(card: Card, place: usize, rest: Rest) -> Turn
+    ensures { λ r. ⌜ Stays card place r ⌝ }
+{
+    let totals = card.totals;
+    match rest {
+        Rest::More => Turn::Over(Last {
+            card,
+            place,
+            how: How::TooLong,
+        }),
+        Rest::Ended => Turn::On(Card {
+            base: card.base,
+            held: card.held,
+            rest: Rest::Ended,
+            totals,
+        }),
+        Rest::Failed(error) => Turn::On(Card {
+            base: card.base,
+            held: card.held,
+            rest: Rest::Failed(error),
+            totals,
+        }),
+    }
+}
+
+// More of the card, after what the window holds from a place on.
+fn go_on(fd: i32, card: Card, place: usize, e: Refusal, window: &mut [u8]) -> Turn
+    requires { ⌜ Sound card (length (now window)) × (place ≤ card .held) × (card .rest ≡ RestOf.More) ⌝ }
+    ensures { λ r. ⌜ Refills (now (window .entry)) card place e r (now (window .exit)) ⌝ }
+{
+    let room = window.len();
+    let left = card.held - place;
+    if left == room {
+        return full(card, place, rest_after(fd));
+    }
+    let base = card.base + place as u64;
+    if u64::MAX - base < room as u64 {
+        return Turn::Over(Last {
+            card,
+            place,
+            how: How::TooFar,
+        });
+    }
+    let totals = card.totals;
+    window::shift(window, place, card.held);
+    let filled = window::fill(fd, window, left, window::next_wanted(left, room));
+    let rest = filled.rest;
+    Turn::On(Card {
+        base,
+        held: filled.held,
+        rest,
+        totals,
+    })
+}
+
+// The frame at this place of the window is not there whole.
+fn wait(fd: i32, card: Card, place: usize, e: Refusal, window: &mut [u8]) -> Turn
+    requires { ⌜ Sound card (length (now window)) × (place ≤ card .held) ⌝ }
+    ensures { λ r. ⌜ Refills (now (window .entry)) card place e r (now (window .exit)) ⌝ }
+{
+    let rest = card.rest;
+    match rest {
+        Rest::More => go_on(fd, card, place, e, window),
+        Rest::Ended => Turn::Over(Last {
+            card,
+            place,
+            how: How::Ended(e),
+        }),
+        Rest::Failed(error) => Turn::Over(Last {
+            card,
+            place,
+            how: How::Unread(error),
+        }),
+    }
+}
+
+// Lists the frames in the window, and has more of the card in it for those after them.
+fn advance(fd: i32, card: Card, window: &mut [u8], samples: &mut [i32]) -> Turn
+    requires { ⌜ Sound card (length (now window)) ⌝ }
+    ensures { λ r. ⌜ Turns (length (now (samples .entry))) (now (window .entry)) card r (now (window .exit)) ⌝ }
+{
+    let held = card.held;
+    let listed = list_frames(&window[..held], card.base, card.totals, samples);
+    let place = listed.place;
+    let totals = listed.totals;
+    let refusal = listed.refusal;
+    let rest = card.rest;
+    let read = Card {
+        base: card.base,
+        held,
+        rest,
+        totals,
+    };
+    let need = error::needs(refusal);
+    match need {
+        Need::Wait => wait(fd, read, place, refusal, window),
+        Need::Room => Turn::Over(Last {
+            card: read,
+            place,
+            how: How::Refused(refusal),
+        }),
+        Need::Final => Turn::Over(Last {
+            card: read,
+            place,
+            how: How::Refused(refusal),
+        }),
+    }
+}
+
+// From the card's first byte to where the run ends.
+fn read_card(fd: i32, window: &mut [u8], samples: &mut [i32]) -> Last
+    requires { ⌜ length (now window) < 2 ^ 64 ⌝ }
+    ensures { λ r. ⌜ Runs (length (now (samples .entry))) r (length (now (window .entry))) ⌝ }
+{
+    let mut card = Card {
+        base: 0,
+        held: 0,
+        rest: Rest::More,
+        totals: Totals {
+            frames: 0,
+            samples: 0,
+        },
+    };
+    loop {
+        let turn = advance(fd, card, window, samples);
+        match turn {
+            Turn::On(next) => card = next,
+            Turn::Over(last) => return last,
         }
     }
 }
@@ -120,172 +283,45 @@ fn read_opening(fd: i32, window: &mut [u8], held: usize) -> Opening
 }
 
 // What stands at a place of the card is no frame, whatever follows.
-fn refuse(fd: i32, window: &mut [u8], held: usize, t: Totals, at: u64, e: Refusal)
-    requires { ⌜ (held ≤ length (now window)) × (4 ≤ length (now window)) ⌝ }
+fn refuse(fd: i32, card: Card, at: u64, e: Refusal, window: &mut [u8])
+    requires { ⌜ Sound card (length (now window)) × (4 ≤ length (now window)) ⌝ }
 {
+    let totals = card.totals;
     if at != 0 {
-        report::stopped(t, at, e, Opening::Other);
+        report::refused(totals, at, e, Opening::Other);
         return;
     }
-    let opening = read_opening(fd, window, held);
-    report::stopped(t, at, e, opening);
+    let opening = read_opening(fd, window, card.held);
+    report::refused(totals, at, e, opening);
 }
 
-// The card ends at a place, where nothing is left or a frame is cut short.
-fn end(t: Totals, at: u64, e: Refusal) {
-    match e {
-        Refusal::NothingLeft => {
-            if t.frames == 0 {
-                report::empty(t);
-            } else {
-                report::ended(t, at);
-            }
-        }
-        _ => report::stopped(t, at, e, Opening::Other),
-    }
-}
-
-// The window as it is, with something else after it.
-fn followed(card: Card, rest: Rest) -> Card
-    ensures { λ r. ⌜ Followed card rest r ⌝ }
+// The last line.
+fn tell(fd: i32, last: Last, window: &mut [u8])
+    requires { ⌜ Sound (last .card) (length (now window)) × (last .place ≤ last .card .held) × (4 ≤ length (now window)) ⌝ }
 {
+    let card = last.card;
+    let at = card.base + last.place as u64;
     let totals = card.totals;
-    Card {
-        base: card.base,
-        held: card.held,
-        rest,
-        totals,
+    let how = last.how;
+    match how {
+        How::Ended(e) => report::ended(totals, at, e),
+        How::Refused(e) => refuse(fd, card, at, e, window),
+        How::Unread(error) => report::unread(totals, card.base + card.held as u64, error),
+        How::TooLong => report::too_long(totals, at),
+        How::TooFar => report::too_far(totals, at),
     }
 }
 
-// The window is full of what may be one frame: whether the card goes on after it.
-fn full(fd: i32, card: Card) -> Turn
-    requires { ⌜ card .rest ≡ RestOf.More ⌝ }
-    ensures { λ r. ⌜ Stays card r ⌝ }
-{
-    let mut one = [0u8; 1];
-    let next = window::fill(fd, &mut one, 0, 1);
-    let rest = next.rest;
-    let totals = card.totals;
-    match rest {
-        Rest::More => {
-            report::window_limit(totals, card.base);
-            Turn::Over
-        }
-        Rest::Ended => Turn::On(followed(card, rest)),
-        Rest::Failed(_) => Turn::On(followed(card, rest)),
-    }
-}
-
-// More of the card, after what the window holds from a place on.
-fn go_on(fd: i32, card: Card, place: usize, window: &mut [u8]) -> Turn
-    requires { ⌜ Sound card (length (now window)) × (place ≤ card .held) × (card .rest ≡ RestOf.More) ⌝ }
-    ensures { λ r. ⌜ Refills (now (window .entry)) card place r (now (window .exit)) ⌝ }
-{
-    let room = window.len();
-    let left = card.held - place;
-    if left == room {
-        return full(fd, card);
-    }
-    let base = card.base + place as u64;
-    let totals = card.totals;
-    if u64::MAX - base < room as u64 {
-        report::count_limit(totals, base);
-        return Turn::Over;
-    }
-    window::shift(window, place, card.held);
-    let filled = window::fill(fd, window, left, window::next_wanted(left, room));
-    let rest = filled.rest;
-    Turn::On(Card {
-        base,
-        held: filled.held,
-        rest,
-        totals,
-    })
-}
-
-// No whole frame is left in the window, from this place on.
-fn wait(fd: i32, card: Card, place: usize, e: Refusal, window: &mut [u8]) -> Turn
-    requires { ⌜ Sound card (length (now window)) × (place ≤ card .held) ⌝ }
-    ensures { λ r. ⌜ Refills (now (window .entry)) card place r (now (window .exit)) ⌝ }
-{
-    let rest = card.rest;
-    let totals = card.totals;
-    match rest {
-        Rest::More => go_on(fd, card, place, window),
-        Rest::Ended => {
-            end(totals, card.base + place as u64, e);
-            Turn::Over
-        }
-        Rest::Failed(error) => {
-            report::unread(totals, card.base + card.held as u64, error);
-            Turn::Over
-        }
-    }
-}
-
-// Lists the frames in the window, and has more of the card in it for those after them.
-fn advance(fd: i32, card: Card, window: &mut [u8], samples: &mut [i32]) -> Turn
-    requires { ⌜ Sound card (length (now window)) × (4 ≤ length (now window)) ⌝ }
-    ensures { λ r. ⌜ Advances card r (length (now (window .entry))) ⌝ }
-{
-    let held = card.held;
-    let listed = list_frames(&window[..held], card.base, card.totals, samples);
-    let place = listed.place;
-    let at = card.base + place as u64;
-    let totals = listed.totals;
-    let refusal = listed.refusal;
-    let rest = card.rest;
-    let need = error::needs(refusal);
-    match need {
-        Need::Wait => wait(
-            fd,
-            Card {
-                base: card.base,
-                held,
-                rest,
-                totals,
-            },
-            place,
-            refusal,
-            window,
-        ),
-        Need::Room => {
-            report::room_limit(totals, at);
-            Turn::Over
-        }
-        Need::Final => {
-            refuse(fd, window, held, totals, at, refusal);
-            Turn::Over
-        }
-    }
-}
-
-// From the card's first byte to its last.
-fn read_card(fd: i32, window: &mut [u8], samples: &mut [i32])
+fn list_card(fd: i32, window: &mut [u8], samples: &mut [i32])
     requires { ⌜ (4 ≤ length (now window)) × (length (now window) < 2 ^ 64) ⌝ }
 {
-    let mut card = Card {
-        base: 0,
-        held: 0,
-        rest: Rest::More,
-        totals: Totals {
-            frames: 0,
-            samples: 0,
-        },
-    };
-    loop {
-        let next = advance(fd, card, window, samples);
-        match next {
-            Turn::On(c) => card = c,
-            Turn::Over => return,
-        }
-    }
+    let last = read_card(fd, window, samples);
+    tell(fd, last, window);
 }
 
 // The arrays are made slices here, and not where they stand.
-fn read_into(fd: i32, window: &mut [u8; WINDOW], samples: &mut [i32; ROOM]) {
-    read_card(fd, window, samples);
+fn list_into(fd: i32, window: &mut [u8; WINDOW], samples: &mut [i32; ROOM]) {
+    list_card(fd, window, samples);
 }
 
 // The card that the first argument names.
@@ -304,26 +340,22 @@ fn open_card() -> Opened {
 }
 
 fn main() {
-    let nothing = Totals {
-        frames: 0,
-        samples: 0,
-    };
     let mut window = [0u8; WINDOW];
     let mut samples = [0i32; ROOM];
     if 2 < os::arg_count() {
-        report::two_names(nothing);
+        report::two_names();
         return;
     }
     if os::arg_count() < 2 {
-        read_into(STDIN_FILENO, &mut window, &mut samples);
+        list_into(STDIN_FILENO, &mut window, &mut samples);
         return;
     }
     let opened = open_card();
     match opened {
         Opened::At(fd) => {
-            read_into(fd, &mut window, &mut samples);
+            list_into(fd, &mut window, &mut samples);
             libc::close(fd);
         }
-        Opened::Failed(error) => report::unopened(nothing, error),
+        Opened::Failed(error) => report::unopened(error),
     }
 }

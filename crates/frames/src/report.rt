@@ -6,6 +6,7 @@ use crate::line::put;
 use crate::line::put_field;
 use crate::line::write_line;
 use crate::stream::Opening;
+use error::Need;
 use error::Refusal;
 use frame::Accepted;
 ghost use Rattle.io.specs.Counts.{Counts};
@@ -72,24 +73,44 @@ fn put_opening(line: &mut [u8; LINE], start: usize, o: Opening) -> usize
     }
 }
 
-// The card ends after a frame.
-pub fn ended(t: Totals, at: u64) {
+// The card ends after a frame, or has no bytes, or is cut short.
+pub fn ended(t: Totals, at: u64, e: Refusal) {
+    match e {
+        Refusal::NothingLeft => {
+            if t.frames == 0 {
+                empty(t);
+            } else {
+                whole(t, at);
+            }
+        }
+        _ => stopped(t, at, e, Opening::Other),
+    }
+}
+
+fn whole(t: Totals, at: u64) {
     let mut line = [0u8; LINE];
     let n = put_start(&mut line, b"ended:", t);
     let n = put_field(&mut line, n, b"the card ends after a frame, at byte ", at);
     write_line(&mut line, n);
 }
 
-// The card has no bytes.
-pub fn empty(t: Totals) {
+fn empty(t: Totals) {
     let mut line = [0u8; LINE];
     let n = put_start(&mut line, b"empty:", t);
     let n = put(&mut line, n, b"the card has no bytes");
     write_line(&mut line, n);
 }
 
-// What stands at this place of the card is refused, and no byte after it changes that.
-pub fn stopped(t: Totals, at: u64, e: Refusal, o: Opening) {
+// What stands at this place of the card is refused whatever follows, by the card itself or for want of room.
+pub fn refused(t: Totals, at: u64, e: Refusal, o: Opening) {
+    let need = error::needs(e);
+    match need {
+        Need::Room => no_room(t, at),
+        _ => stopped(t, at, e, o),
+    }
+}
+
+fn stopped(t: Totals, at: u64, e: Refusal, o: Opening) {
     let mut line = [0u8; LINE];
     let n = put_start(&mut line, b"stopped:", t);
     let n = put_field(&mut line, n, b"at byte ", at);
@@ -97,6 +118,18 @@ pub fn stopped(t: Totals, at: u64, e: Refusal, o: Opening) {
     let n = put(&mut line, n, b", ");
     let n = put_cause(&mut line, n, e);
     let n = put_opening(&mut line, n, o);
+    write_line(&mut line, n);
+}
+
+fn no_room(t: Totals, at: u64) {
+    let mut line = [0u8; LINE];
+    let n = put_start(&mut line, b"limit:", t);
+    let n = put_field(&mut line, n, b"the frame at byte ", at);
+    let n = put(
+        &mut line,
+        n,
+        b" has more samples than this program has room for",
+    );
     write_line(&mut line, n);
 }
 
@@ -108,10 +141,24 @@ fn error_number(error: i32) -> u64 {
     0
 }
 
+// The beginning of a last line where nothing was read.
+fn put_nothing(line: &mut [u8; LINE]) -> usize
+    ensures { λ r. ⌜ Counts r (now (line .exit)) ⌝ }
+{
+    put_start(
+        line,
+        b"unread:",
+        Totals {
+            frames: 0,
+            samples: 0,
+        },
+    )
+}
+
 // The card could not be opened.
-pub fn unopened(t: Totals, error: i32) {
+pub fn unopened(error: i32) {
     let mut line = [0u8; LINE];
-    let n = put_start(&mut line, b"unread:", t);
+    let n = put_nothing(&mut line);
     let n = put_field(
         &mut line,
         n,
@@ -122,9 +169,9 @@ pub fn unopened(t: Totals, error: i32) {
 }
 
 // More than one name was given.
-pub fn two_names(t: Totals) {
+pub fn two_names() {
     let mut line = [0u8; LINE];
-    let n = put_start(&mut line, b"unread:", t);
+    let n = put_nothing(&mut line);
     let n = put(&mut line, n, b"more than one card is named");
     write_line(&mut line, n);
 }
@@ -139,7 +186,7 @@ pub fn unread(t: Totals, at: u64, error: i32) {
 }
 
 // What stands at this place of the card may be a frame, and the window is too small for it.
-pub fn window_limit(t: Totals, at: u64) {
+pub fn too_long(t: Totals, at: u64) {
     let mut line = [0u8; LINE];
     let n = put_start(&mut line, b"limit:", t);
     let n = put_field(&mut line, n, b"what stands at byte ", at);
@@ -153,21 +200,8 @@ pub fn window_limit(t: Totals, at: u64) {
     write_line(&mut line, n);
 }
 
-// The frame at this place of the card has more samples than there is room for.
-pub fn room_limit(t: Totals, at: u64) {
-    let mut line = [0u8; LINE];
-    let n = put_start(&mut line, b"limit:", t);
-    let n = put_field(&mut line, n, b"the frame at byte ", at);
-    let n = put(
-        &mut line,
-        n,
-        b" has more samples than this program has room for",
-    );
-    write_line(&mut line, n);
-}
-
 // Places of the card are counted in 64 bits.
-pub fn count_limit(t: Totals, at: u64) {
+pub fn too_far(t: Totals, at: u64) {
     let mut line = [0u8; LINE];
     let n = put_start(&mut line, b"limit:", t);
     let n = put_field(

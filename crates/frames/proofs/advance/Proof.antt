@@ -1,8 +1,10 @@
--- The window's frames, and then a turn that goes further. Assumes nothing.
+-- The window's frames, and then a turn that leaves as much to list as there was. Assumes nothing.
 use native.Mathlib.Omega.{arith}
-use mathlib.Core.Path.{sym, refl}
+use mathlib.Core.Path.{refl, sym, _∙_}
+use lib.ListN.{length}
 use lib.Seq.{length-take-le}
-use Rattle.frames.proofs.Turning.{advances}
+use Rattle.error.specs.declared.Need.{Need}
+use Rattle.frames.proofs.Turning.{kindFor, place-inside, turns, refused-stops}
 use borrow.Author.Needs.{needs}
 use Rattle.frames.proofs.advance.Statement.{statement}
 use Rattle.frames.proofs.advance.Tie as tie
@@ -11,13 +13,10 @@ slice-reshare-prefix-list-frames : tie.Need-slice-reshare-prefix-list-frames
 slice-reshare-prefix-list-frames c = search needs
 
 slice-aggregate-list-frames : tie.Need-slice-aggregate-list-frames
-slice-aggregate-list-frames c = let a = c .before .before in sym (length-take-le (a .args .card .held) (a .args .window .now) (a .pre .0 .inside))
+slice-aggregate-list-frames c = let a = c .before .before in sym (length-take-le (a .args .card .held) (a .args .window .now) (a .pre .inside))
 
 list-frames-requires : tie.Need-list-frames-requires
-list-frames-requires c κs = let a = c .before .before .before in omega (arith, a .pre .0 .inside, a .pre .0 .numbered, length-take-le (a .args .card .held) (a .args .window .now) (a .pre .0 .inside))
-
-add-at : tie.Need-add-at
-add-at c = let ls = c .before .before in let a = ls .before .before .before .before in omega (arith, ls .list-frames .ensures, a .pre .0 .inside, a .pre .0 .numbered, length-take-le (a .args .card .held) (a .args .window .now) (a .pre .0 .inside))
+list-frames-requires c κs = let a = c .before .before .before in omega (arith, a .pre .inside, a .pre .numbered, length-take-le (a .args .card .held) (a .args .window .now) (a .pre .inside))
 
 needs-requires : tie.Need-needs-requires
 needs-requires c κs = search needs
@@ -26,19 +25,13 @@ enum-told : tie.Need-enum-told
 enum-told c = search needs
 
 wait-requires : tie.Need-wait-requires
-wait-requires c κs = let ls = c .before .before .before .before .before .before .before in let a = ls .before .before .before .before in (record { inside = a .pre .0 .inside; numbered = a .pre .0 .numbered }, omega (arith, ls .list-frames .ensures, a .pre .0 .inside, a .pre .0 .numbered, length-take-le (a .args .card .held) (a .args .window .now) (a .pre .0 .inside)))
+wait-requires c κs = let ls = c .before .before .before .before .before .before in let a = ls .before .before .before .before in (record { inside = a .pre .inside; numbered = a .pre .numbered }, place-inside (length (a .args .samples .now)) (a .args .window .now) (a .args .card) (ls .list-frames .result) (a .pre) (ls .list-frames .ensures))
 
 enum-told-2 : tie.Need-enum-told-2
 enum-told-2 c = search needs
 
-room-limit-requires : tie.Need-room-limit-requires
-room-limit-requires c κs = search needs
-
 enum-told-3 : tie.Need-enum-told-3
 enum-told-3 c = search needs
-
-refuse-requires : tie.Need-refuse-requires
-refuse-requires c κs = search needs
 
 same-length : tie.Need-same-length
 same-length c = search needs
@@ -47,7 +40,7 @@ same-length-2 : tie.Need-same-length-2
 same-length-2 c = search needs
 
 returns : tie.Need-returns
-returns c = let ls = c .before .before .before .before .before .before .before .before .before .before in let a = ls .before .before .before .before in let w = c .before .before in advances (a .args .window .now) (w .wait .last .1 .1 .1 .1 .0) (a .args .card) _ _ refl (w .wait .result) (w .wait .ensures)
+returns c = let ls = c .before .before .before .before .before .before .before .before .before in let a = ls .before .before .before .before in let w = c .before .before in let t = w .before .before in turns (length (a .args .samples .now)) (a .args .window .now) (a .args .card) (ls .list-frames .result) (a .pre) (ls .list-frames .ensures) (sym (t .before .before .needs .ensures) ∙ t .enum-told .given .1) (w .wait .last .1 .1 .1 .1 .0) (w .wait .kept .1 .1 .1 .1 .0) (w .wait .result) (w .wait .ensures)
 
 same-length-3 : tie.Need-same-length-3
 same-length-3 c = search needs
@@ -56,7 +49,8 @@ same-length-4 : tie.Need-same-length-4
 same-length-4 c = search needs
 
 returns-2 : tie.Need-returns-2
-returns-2 c = search needs
+unfolding kindFor
+returns-2 c = let ls = c .before .before .before .before .before in let a = ls .before .before .before .before in refused-stops (length (a .args .samples .now)) (a .args .window .now) (a .args .card) (ls .list-frames .result) (a .pre) (ls .list-frames .ensures) Need.Room (sym (c .before .before .needs .ensures) ∙ c .enum-told2 .given .1) refl
 
 same-length-5 : tie.Need-same-length-5
 same-length-5 c = search needs
@@ -65,7 +59,8 @@ same-length-6 : tie.Need-same-length-6
 same-length-6 c = search needs
 
 returns-3 : tie.Need-returns-3
-returns-3 c = search needs
+unfolding kindFor
+returns-3 c = let ls = c .before .before .before .before .before in let a = ls .before .before .before .before in refused-stops (length (a .args .samples .now)) (a .args .window .now) (a .args .card) (ls .list-frames .result) (a .pre) (ls .list-frames .ensures) Need.Final (sym (c .before .before .needs .ensures) ∙ c .enum-told3 .given .1) refl
 
 pub advance-spec : {M : Type 1} → statement M
 advance-spec =
@@ -74,14 +69,11 @@ advance-spec =
     slice-reshare-prefix-list-frames
     slice-aggregate-list-frames
     list-frames-requires
-    add-at
     needs-requires
     enum-told
     wait-requires
     enum-told-2
-    room-limit-requires
     enum-told-3
-    refuse-requires
     same-length
     same-length-2
     returns

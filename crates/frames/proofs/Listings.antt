@@ -1,0 +1,195 @@
+-- What is listed of some bytes: answer by answer, by steps of a walk, and in a window that is only a part of the card.
+-- Assumes nothing.
+use Prim.Native.Nat.{ℕ, zero, suc, _+_, _≤_, _<_}
+use native.Mathlib.Omega.{arith}
+use mathlib.Core.Path.{_≡_, refl, ap, ap₂, sym, _∙_, subst}
+use mathlib.Core.List.{List, [], _∷_, _++_}
+use borrow.Author.Tests.{eq-eqb, ne-eqb}
+use lib.IntN.{ℤ}
+use lib.ListN.{length, drop, length-drop}
+use lib.Seq.{drop-drop, drop-append-le}
+use Rattle.error.specs.declared.Refusal.{Refusal}
+use Rattle.error.specs.Numbers.{numberOf}
+use Rattle.error.proofs.Outcome.{some-number}
+use Rattle.rfc9639.specs.Read.{Report, refusal, Result, result, read}
+use Rattle.rfc9639.specs.FrameByFrame.{Kind, frame, undecided, refused, kindOf, kind, goesOn, answers}
+use Rattle.demands.proofs.FrameByFrame.{frame-zero, kind-is, Lawful, unrolled, lawful}
+use Rattle.frame.specs.declared.Accepted.{Accepted}
+use Rattle.frame.specs.declared.Answer.{Answer}
+use Rattle.frame.specs.Reads.{reportOf}
+use Rattle.walk.specs.declared.Step.{Step}
+use Rattle.walk.specs.Steps.{Steps}
+use Rattle.frames.specs.declared.Totals.{Totals}
+use Rattle.frames.specs.Listing.{counted, Listing, listing, listed}
+
+-- ---- an answer
+
+module _ (place : ℕ) (t : Totals) (q : Result) (qs : List Result) where
+  frame-listing : q .report .number ≡ 0
+      → listing place t (q ∷ qs) ≡ listing (place + q .report .consumed) (counted t (q .report .channels) (q .report .size)) qs
+  unfolding listing
+  frame-listing z = rw (eq-eqb (q .report .number) 0 z)
+
+  stop-listing : (q .report .number ≡ 0 → ⊥) → listing place t (q ∷ qs) ≡ record { place = place; totals = t; number = q .report .number }
+  unfolding listing
+  stop-listing n = rw (ne-eqb (q .report .number) 0 n)
+
+-- ---- all answers, and a window
+
+module _ {one : List ℕ → Result} (law : Lawful one) where
+  abbrev shown : ℕ → Totals → List ℕ → Listing
+  shown place t s = listing place t (answers one s)
+
+  pub frame-shown : (place : ℕ) (t : Totals) (s : List ℕ) → kind (one s) ≡ frame
+      → shown place t s
+      ≡ shown (place + one s .report .consumed) (counted t (one s .report .channels) (one s .report .size)) (drop (one s .report .consumed) s)
+  unfolding goesOn
+  frame-shown place t s e =
+      ap (listing place t) (unrolled law s ∙ ap (λ (k : Kind). one s ∷ goesOn k (answers one (drop (one s .report .consumed) s))) e)
+      ∙ frame-listing place t (one s) (answers one (drop (one s .report .consumed) s)) (frame-zero (one s .report .number) e)
+
+  pub other-shown : (place : ℕ) (t : Totals) (s : List ℕ) → (kind (one s) ≡ frame → ⊥)
+      → shown place t s ≡ record { place = place; totals = t; number = one s .report .number }
+  unfolding kindOf
+  other-shown place t s n = ap (listing place t) (unrolled law s) ∙ stop-listing place t (one s) _ (λ z. n (kind-is z refl))
+
+  -- What a window shows, and what is then known of every card that goes on after it.
+  record Found (place : ℕ) (t : Totals) (w : List ℕ) : Type 0 where
+    within : ℕ
+    totals : Totals
+    number : ℕ
+    is : shown place t w ≡ record { place = place + within; totals = totals; number = number }
+    goes : kindOf number ≡ undecided → (more : List ℕ) → shown place t (w ++ more) ≡ shown (place + within) totals (drop within w ++ more)
+    stands : (kindOf number ≡ undecided → ⊥) → (more : List ℕ) → shown place t (w ++ more) ≡ shown place t w
+
+  module _ (place : ℕ) (t : Totals) (w : List ℕ) where
+    abbrev taken : ℕ
+    taken = one w .report .consumed
+
+    abbrev after : Totals
+    after = counted t (one w .report .channels) (one w .report .size)
+
+    -- what is decided in the window is decided in the card
+    longer : (kind (one w) ≡ undecided → ⊥) → (more : List ℕ) → one (w ++ more) ≡ one w
+    longer known more = law .extended w more known
+
+    module _ (e : kind (one w) ≡ frame) where
+      frame-known : kind (one w) ≡ undecided → ⊥
+      frame-known u = let z : _≡_ {A = ℕ} 0 1 = cc in omega arith
+
+      frame-longer : (more : List ℕ) → shown place t (w ++ more) ≡ shown (place + taken) after (drop taken w ++ more)
+      frame-longer more =
+          let same = longer frame-known more in
+          frame-shown place t (w ++ more) (ap kind same ∙ e)
+          ∙ ap (λ (q : Result). shown (place + q .report .consumed) (counted t (q .report .channels) (q .report .size)) (drop (q .report .consumed) (w ++ more))) same
+          ∙ ap (shown (place + taken) after) (drop-append-le taken w more (law .there w e))
+
+      frame-found : Found (place + taken) after (drop taken w) → Found place t w
+      frame-found f =
+          let sum : place + taken + f .within ≡ place + (taken + f .within) = omega arith in
+          record {
+            within = taken + f .within;
+            totals = f .totals;
+            number = f .number;
+            is = frame-shown place t w e ∙ f .is ∙ ap (λ m. record { place = m; totals = f .totals; number = f .number }) sum;
+            goes = λ u more.
+                frame-longer more ∙ f .goes u more
+                ∙ ap₂ (λ m (l : List ℕ). shown m (f .totals) (l ++ more)) sum (drop-drop (f .within) taken w);
+            stands = λ known more. frame-longer more ∙ f .stands known more ∙ sym (frame-shown place t w e);
+          }
+
+    undecided-found : kind (one w) ≡ undecided → Found place t w
+    undecided-found e =
+        let sum : place ≡ place + 0 = omega arith in
+        record {
+          within = 0;
+          totals = t;
+          number = one w .report .number;
+          is =
+              other-shown place t w (λ f. let z : _≡_ {A = ℕ} 0 1 = cc in omega arith)
+              ∙ ap (λ m. record { place = m; totals = t; number = one w .report .number }) sum;
+          goes = λ u more. ap (λ m. shown m t (w ++ more)) sum;
+          stands = λ known. absurd (known e);
+        }
+
+    refused-found : kind (one w) ≡ refused → Found place t w
+    refused-found e =
+        let sum : place ≡ place + 0 = omega arith in
+        let none : kind (one w) ≡ frame → ⊥ = λ f. let z : _≡_ {A = ℕ} 0 1 = cc in omega arith in
+        let known : kind (one w) ≡ undecided → ⊥ = λ u. let z : _≡_ {A = ℕ} 0 1 = cc in omega arith in
+        record {
+          within = 0;
+          totals = t;
+          number = one w .report .number;
+          is = other-shown place t w none ∙ ap (λ m. record { place = m; totals = t; number = one w .report .number }) sum;
+          goes = λ u. absurd (known u);
+          stands = λ k more.
+              let same = longer known more in
+              other-shown place t (w ++ more) (λ f. none (sym (ap kind same) ∙ f))
+              ∙ ap (λ (q : Result). record { place = place; totals = t; number = q .report .number }) same ∙ sym (other-shown place t w none);
+        }
+
+  found : (n : ℕ) (place : ℕ) (t : Totals) (w : List ℕ) → length w < n → Found place t w
+  found zero place t w h = absurd (omega arith)
+  found (suc n) place t w h = go (kind (one w)) refl (found n)
+    where
+      go : (k : Kind) → kind (one w) ≡ k → ((p : ℕ) (u : Totals) (v : List ℕ) → length v < n → Found p u v) → Found place t w
+      go frame e again =
+          frame-found place t w e
+          (again _ _ _ (omega (arith, law .there w e, law .some w e, length-drop (one w .report .consumed) w)))
+      go undecided e again = undecided-found place t w e
+      go refused e again = refused-found place t w e
+
+  module _ (place : ℕ) (t : Totals) (w : List ℕ) (k : ℕ) {number : ℕ} {u : Totals}
+      (is : shown place t w ≡ record { place = place + k; totals = u; number = number }) where
+    abbrev f : Found place t w
+    f = found (suc (length w)) place t w (omega arith)
+
+    alike : _≡_ {A = Listing} (record { place = place + f .within; totals = f .totals; number = f .number }) (record { place = place + k; totals = u; number = number })
+    alike = sym (f .is) ∙ is
+
+    -- where more bytes may change the answer at a place, the card goes on from there
+    pub goes-on-from : kindOf number ≡ undecided → (more : List ℕ) → shown place t (w ++ more) ≡ shown (place + k) u (drop k w ++ more)
+    goes-on-from e more =
+        let same : f .within ≡ k = omega (arith, ap (λ (l : Listing). l .place) alike) in
+        f .goes (ap kindOf (ap (λ (l : Listing). l .number) alike) ∙ e) more
+        ∙ ap₂ (λ m (v : Totals). shown (place + m) v (drop m w ++ more)) same (ap (λ (l : Listing). l .totals) alike)
+
+    -- where they cannot, they do not
+    pub stands-there : (kindOf number ≡ undecided → ⊥) → (more : List ℕ) → shown place t (w ++ more) ≡ record { place = place + k; totals = u; number = number }
+    stands-there known more = f .stands (λ e. known (sym (ap kindOf (ap (λ (l : Listing). l .number) alike)) ∙ e)) more ∙ is
+
+-- ---- a step of a walk
+
+module _ (s : List ℕ) (room base : ℕ) where
+  abbrev one : List ℕ → Result
+  one = result (record { room = room })
+
+  module _ (place : ℕ) {b left : List ℤ} {r : Step} (long : length b ≡ room) (h : Steps s place b r left) (t : Totals) where
+    told : reportOf (r .answer) ≡ one (drop place s) .report
+    unfolding read
+    told = h .answer .report ∙ ap (λ n. result (record { room = n }) (drop place s) .report) long
+
+    next : r .place ≡ place + one (drop place s) .report .consumed
+    unfolding read
+    next = h .next ∙ ap (λ n. place + result (record { room = n }) (drop place s) .report .consumed) long
+
+    pub step-frame : {f : Accepted} → r .answer ≡ Answer.Frame f
+        → listed room (base + place) t (drop place s) ≡ listed room (base + r .place) (counted t (f .channels) (f .size)) (drop (r .place) s)
+    unfolding kindOf
+    step-frame {f} e =
+        let q = one (drop place s) .report in
+        let is = ap reportOf (sym e) ∙ told in
+        let sum : base + place + q .consumed ≡ base + r .place = omega (arith, next) in
+        frame-shown (lawful (record { room = room })) (base + place) t (drop place s) (kind-is (sym (ap (λ (p : Report). p .number) is)) refl)
+        ∙ ap₂ (λ m (l : List ℕ). listed room m (counted t (q .channels) (q .size)) l) sum (drop-drop (q .consumed) place s ∙ ap (λ n. drop n s) (sym next))
+        ∙ ap₂ (λ a c. listed room (base + r .place) (counted t a c) (drop (r .place) s)) (sym (ap (λ (p : Report). p .channels) is)) (sym (ap (λ (p : Report). p .size) is))
+
+    pub step-refused : {x : Refusal} → r .answer ≡ Answer.Refused x
+        → listed room (base + place) t (drop place s) ≡ record { place = base + place; totals = t; number = numberOf x }
+    unfolding refusal
+    step-refused {x} e =
+        let is = ap (λ (p : Report). p .number) (ap reportOf (sym e) ∙ told) in
+        other-shown (lawful (record { room = room })) (base + place) t (drop place s)
+        (λ k. let z = frame-zero (one (drop place s) .report .number) k in omega (arith, some-number x, is))
+        ∙ ap (λ m. record { place = base + place; totals = t; number = m }) (sym is)
