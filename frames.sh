@@ -1,5 +1,5 @@
 #!/bin/sh
-# Lists the frames of a card, and says how it ended: sh frames.sh [FILE | -]. It first proves and builds what has changed.
+# Lists the frames of a card, and says how it ended: sh frames.sh [FILE | -]. What has changed is proved and built first.
 #
 # The last line starts with one word, and the exit status goes by it:
 #     0   ended:              the card ends after a frame

@@ -1,4 +1,5 @@
--- How far a card has been read, that each turn goes further, and that a turn leaves what is listed of the card as it was.
+-- How far a card has been read, that each turn goes further, and that a turn leaves what is listed of the card as it
+-- was.
 use Prim.Native.Nat.{ℕ, _+_, _-_, _*_, _^_, _≤_, _<_}
 use mathlib.Core.Path.{_≡_}
 use mathlib.Core.List.{List, [], _++_}
@@ -82,8 +83,8 @@ pub record Unfinished (room place : ℕ) (t : Totals) (s : List ℕ) (last : Las
   pub rest : List ℕ
   pub same : (more : List ℕ) → listed room place t (s ++ more) ≡ listed room (last .card .base + last .place) (last .card .totals) (rest ++ more)
 
--- What the run's end says of bytes from a place of the card on: where the card ends after them, that this is all of it; of
--- a refusal, that it stands whatever follows; else that nothing was left out so far.
+-- What the run's end says of bytes from a place of the card on: where the card ends after them, that this is all of it;
+-- of a refusal, that it stands whatever follows; else that nothing was left out so far.
 abbrev pub Told : ℕ → ℕ → Totals → List ℕ → Last → How → Type 0
 Told room place t s last (How.Ended e) = listed room place t s ≡ ending last e
 Told room place t s last (How.Refused e) = (more : List ℕ) → listed room place t (s ++ more) ≡ ending last e

@@ -1,5 +1,5 @@
--- A stream header (RFC 9639 sections 6 and 8): the word fLaC and metadata blocks. A block has four bytes before it: in the
--- first the highest bit is set for the last block, and the other three are the block's length.
+-- A stream header (RFC 9639 sections 6 and 8): the word fLaC and metadata blocks. A block has four bytes before it: in
+-- the first the highest bit is set for the last block, and the other three are the block's length.
 use Prim.Native.Nat.{ℕ, suc, zero, _+_, _-_, _*_}
 use mathlib.Core.Bool.{Bool, true, false}
 use mathlib.Core.List.{List}

@@ -1,5 +1,5 @@
-// The frames of a card, for people: of the file that the first argument names, or of standard input where none is named, a
-// line for each frame, and a last line that says how many frames and samples there were and how it ended.
+// The frames of a card, for people: of the file that the first argument names, or of standard input where none is named,
+// a line for each frame, and a last line that says how many frames and samples there were and how it ended.
 //
 // The last line starts with one of these words, for a script to take its status from:
 //     ended:     the card ends after a frame
@@ -43,8 +43,8 @@ pub struct Totals {
     pub samples: u64,
 }
 
-// How far the card has been read: the place on the card of the window's first byte, how many bytes the window holds, what
-// comes after them, and how much there was before the window.
+// How far the card has been read: the place on the card of the window's first byte, how many bytes the window holds,
+// what comes after them, and how much there was before the window.
 pub struct Card {
     pub base: u64,
     pub held: usize,

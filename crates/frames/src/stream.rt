@@ -1,5 +1,5 @@
-// A stream header at the start of the card (RFC 9639 sections 6 and 8): the word fLaC and metadata blocks. It is told from
-// garbage and passed over, to say where the frames start. It is not read yet.
+// A stream header at the start of the card (RFC 9639 sections 6 and 8): the word fLaC and metadata blocks. It is told
+// from garbage and passed over, to say where the frames start. It is not read yet.
 ghost use Prim.Native.Nat.{_+_, _≤_, _<_};
 ghost use mathlib.Core.Path.{_≡_};
 ghost use lib.ListN.{length};

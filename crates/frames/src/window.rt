@@ -5,7 +5,8 @@ ghost use mathlib.Core.Path.{_≡_};
 ghost use lib.ListN.{length, take, drop};
 ghost use Rattle.frames.specs.Window.{ReadAfter, Fills};
 
-// What one read did: it brought so many bytes; the card has ended; it was interrupted; it failed, with the system's number.
+// What one read did: it brought so many bytes; the card has ended; it was interrupted; or it failed, with the system's
+// number.
 pub enum Got {
     Bytes(usize),
     Ended,
@@ -13,8 +14,8 @@ pub enum Got {
     Failed(i32),
 }
 
-// What comes after the bytes that the window holds: more, perhaps; the card's end; or a read that failed, with the system's
-// number.
+// What comes after the bytes that the window holds: more, perhaps; the card's end; or a read that failed, with the
+// system's number.
 pub enum Rest {
     More,
     Ended,
@@ -106,8 +107,8 @@ pub fn fill(fd: i32, window: &mut [u8], before: usize, wanted: usize) -> Filled
     }
 }
 
-// How many bytes to want where so many were too few: twice as many, so that a long frame that comes in small pieces is read
-// again only a few times, and each byte is moved once at most; and no more than there is room for.
+// How many bytes to want where so many were too few: twice as many, so that a long frame that comes in small pieces is
+// read again only a few times; and no more than there is room for.
 pub fn next_wanted(left: usize, room: usize) -> usize
     requires { ⌜ left < room ⌝ }
     ensures { λ r. ⌜ (left < r) × (r ≤ room) ⌝ }

@@ -13,10 +13,14 @@ slice-reshare-prefix-list-frames : tie.Need-slice-reshare-prefix-list-frames
 slice-reshare-prefix-list-frames c = search needs
 
 slice-aggregate-list-frames : tie.Need-slice-aggregate-list-frames
-slice-aggregate-list-frames c = let a = c .before .before in sym (length-take-le (a .args .card .held) (a .args .window .now) (a .pre .inside))
+slice-aggregate-list-frames c =
+    let a = c .before .before in
+    sym (length-take-le (a .args .card .held) (a .args .window .now) (a .pre .inside))
 
 list-frames-requires : tie.Need-list-frames-requires
-list-frames-requires c κs = let a = c .before .before .before in omega (arith, a .pre .inside, a .pre .numbered, length-take-le (a .args .card .held) (a .args .window .now) (a .pre .inside))
+list-frames-requires c κs =
+    let a = c .before .before .before in
+    omega (arith, a .pre .inside, a .pre .numbered, length-take-le (a .args .card .held) (a .args .window .now) (a .pre .inside))
 
 needs-requires : tie.Need-needs-requires
 needs-requires c κs = search needs
@@ -25,7 +29,10 @@ enum-told : tie.Need-enum-told
 enum-told c = search needs
 
 wait-requires : tie.Need-wait-requires
-wait-requires c κs = let ls = c .before .before .before .before .before .before in let a = ls .before .before .before .before in (record { inside = a .pre .inside; numbered = a .pre .numbered }, place-inside (length (a .args .samples .now)) (a .args .window .now) (a .args .card) (ls .list-frames .result) (a .pre) (ls .list-frames .ensures))
+wait-requires c κs =
+    let ls = c .before .before .before .before .before .before in
+    let a = ls .before .before .before .before in
+    (record { inside = a .pre .inside; numbered = a .pre .numbered }, place-inside (length (a .args .samples .now)) (a .args .window .now) (a .args .card) (ls .list-frames .result) (a .pre) (ls .list-frames .ensures))
 
 enum-told-2 : tie.Need-enum-told-2
 enum-told-2 c = search needs
@@ -40,7 +47,12 @@ same-length-2 : tie.Need-same-length-2
 same-length-2 c = search needs
 
 returns : tie.Need-returns
-returns c = let ls = c .before .before .before .before .before .before .before .before .before in let a = ls .before .before .before .before in let w = c .before .before in let t = w .before .before in turns (length (a .args .samples .now)) (a .args .window .now) (a .args .card) (ls .list-frames .result) (a .pre) (ls .list-frames .ensures) (sym (t .before .before .needs .ensures) ∙ t .enum-told .given .1) (w .wait .last .1 .1 .1 .1 .0) (w .wait .kept .1 .1 .1 .1 .0) (w .wait .result) (w .wait .ensures)
+returns c =
+    let ls = c .before .before .before .before .before .before .before .before .before in
+    let a = ls .before .before .before .before in
+    let w = c .before .before in
+    let t = w .before .before in
+    turns (length (a .args .samples .now)) (a .args .window .now) (a .args .card) (ls .list-frames .result) (a .pre) (ls .list-frames .ensures) (sym (t .before .before .needs .ensures) ∙ t .enum-told .given .1) (w .wait .last .1 .1 .1 .1 .0) (w .wait .kept .1 .1 .1 .1 .0) (w .wait .result) (w .wait .ensures)
 
 same-length-3 : tie.Need-same-length-3
 same-length-3 c = search needs
@@ -50,7 +62,10 @@ same-length-4 c = search needs
 
 returns-2 : tie.Need-returns-2
 unfolding kindFor
-returns-2 c = let ls = c .before .before .before .before .before in let a = ls .before .before .before .before in refused-stops (length (a .args .samples .now)) (a .args .window .now) (a .args .card) (ls .list-frames .result) (a .pre) (ls .list-frames .ensures) Need.Room (sym (c .before .before .needs .ensures) ∙ c .enum-told2 .given .1) refl
+returns-2 c =
+    let ls = c .before .before .before .before .before in
+    let a = ls .before .before .before .before in
+    refused-stops (length (a .args .samples .now)) (a .args .window .now) (a .args .card) (ls .list-frames .result) (a .pre) (ls .list-frames .ensures) Need.Room (sym (c .before .before .needs .ensures) ∙ c .enum-told2 .given .1) refl
 
 same-length-5 : tie.Need-same-length-5
 same-length-5 c = search needs
@@ -60,7 +75,10 @@ same-length-6 c = search needs
 
 returns-3 : tie.Need-returns-3
 unfolding kindFor
-returns-3 c = let ls = c .before .before .before .before .before in let a = ls .before .before .before .before in refused-stops (length (a .args .samples .now)) (a .args .window .now) (a .args .card) (ls .list-frames .result) (a .pre) (ls .list-frames .ensures) Need.Final (sym (c .before .before .needs .ensures) ∙ c .enum-told3 .given .1) refl
+returns-3 c =
+    let ls = c .before .before .before .before .before in
+    let a = ls .before .before .before .before in
+    refused-stops (length (a .args .samples .now)) (a .args .window .now) (a .args .card) (ls .list-frames .result) (a .pre) (ls .list-frames .ensures) Need.Final (sym (c .before .before .needs .ensures) ∙ c .enum-told3 .given .1) refl
 
 pub advance-spec : {M : Type 1} → statement M
 advance-spec =

@@ -15,7 +15,10 @@ full-requires : tie.Need-full-requires
 full-requires c κs = search needs
 
 returns : tie.Need-returns
-returns c = let t = c .before .before in let a = t .before .before .before in full-refills (a .args .window .now) (a .args .card) (a .args .place) (a .args .e) (a .pre .0) (a .pre .1) (a .pre .2) (t .if1 .taken) (c .full .result) (c .full .ensures)
+returns c =
+    let t = c .before .before in
+    let a = t .before .before .before in
+    full-refills (a .args .window .now) (a .args .card) (a .args .place) (a .args .e) (a .pre .0) (a .pre .1) (a .pre .2) (t .if1 .taken) (c .full .result) (c .full .ensures)
 
 add-base : tie.Need-add-base
 add-base c = search needs
@@ -39,7 +42,13 @@ same-length : tie.Need-same-length
 same-length c = search needs
 
 returns-3 : tie.Need-returns-3
-returns-3 c = let f = c .before .before in let w = f .before in let m = w .before .before .before .before in let e = m .before .before .before in let a = e .before .before .before .before .before in go-refills (a .args .window .now) (a .args .card) (a .args .place) (a .args .e) (a .pre .0) (a .pre .1) (a .pre .2) (m .shift .last .0) (f .fill .last .1 .0) (f .fill .result) (w .next-wanted .result) (m .shift .kept .0) (m .shift .ensures) (f .fill .ensures) (w .next-wanted .ensures .0) (omega (arith, e .if2 .left))
+returns-3 c =
+    let f = c .before .before in
+    let w = f .before in
+    let m = w .before .before .before .before in
+    let e = m .before .before .before in
+    let a = e .before .before .before .before .before in
+    go-refills (a .args .window .now) (a .args .card) (a .args .place) (a .args .e) (a .pre .0) (a .pre .1) (a .pre .2) (m .shift .last .0) (f .fill .last .1 .0) (f .fill .result) (w .next-wanted .result) (m .shift .kept .0) (m .shift .ensures) (f .fill .ensures) (w .next-wanted .ensures .0) (omega (arith, e .if2 .left))
 
 pub go-on-spec : {M : Type 1} → statement M
 go-on-spec =

@@ -19,7 +19,9 @@ abbrev μ-loop : tie.MeasureT-loop
 μ-loop bytes base samples₀ place₀ totals₀ samples place totals = length bytes - place
 
 loop-holds : tie.Need-loop-holds Inv-loop μ-loop
-loop-holds c = let a = c .before in (omega arith, search needs, ap (λ n. listed (length (a .args .samples .now)) n (a .args .before) (a .args .bytes .now)) (let z : a .args .base + 0 ≡ a .args .base = omega arith in z))
+loop-holds c =
+    let a = c .before in
+    (omega arith, search needs, ap (λ n. listed (length (a .args .samples .now)) n (a .args .before) (a .args .bytes .now)) (let z : a .args .base + 0 ≡ a .args .base = omega arith in z))
 
 read-next-requires : tie.Need-read-next-requires Inv-loop μ-loop
 read-next-requires c κs = search needs
@@ -37,25 +39,45 @@ sum-requires : tie.Need-sum-requires Inv-loop μ-loop
 sum-requires c κs = search needs
 
 mul-sum : tie.Need-mul-sum Inv-loop μ-loop
-mul-sum c = let d = c .before .before .before .before .before .before .before in let l = d .before .before in let a = l .before .before in omega (arith, samples-lent (a .args .bytes .now) (l .loop .place) (l .loop .samples) (d .read-next .ensures) (c .before .before .before .before .answer .given .1), a .good .1 .1 .1 .0)
+mul-sum c =
+    let d = c .before .before .before .before .before .before .before in
+    let l = d .before .before in
+    let a = l .before .before in
+    omega (arith, samples-lent (a .args .bytes .now) (l .loop .place) (l .loop .samples) (d .read-next .ensures) (c .before .before .before .before .answer .given .1), a .good .1 .1 .1 .0)
 
 sum-requires-2 : tie.Need-sum-requires-2 Inv-loop μ-loop
 sum-requires-2 c κs = search needs
 
 loop-less : tie.Need-loop-less Inv-loop μ-loop
-loop-less c = let d = c .before .before .before .before .before .before .before .before in let l = d .before .before in let a = l .before .before in omega (arith, goes-on (a .args .bytes .now) (l .loop .place) (l .loop .samples) (d .read-next .ensures) (c .before .before .before .before .before .answer .given .1), stays-inside (a .args .bytes .now) (l .loop .place) (l .loop .samples) (d .read-next .ensures) (c .before .before .before .before .before .answer .given .1))
+loop-less c =
+    let d = c .before .before .before .before .before .before .before .before in
+    let l = d .before .before in
+    let a = l .before .before in
+    omega (arith, goes-on (a .args .bytes .now) (l .loop .place) (l .loop .samples) (d .read-next .ensures) (c .before .before .before .before .before .answer .given .1), stays-inside (a .args .bytes .now) (l .loop .place) (l .loop .samples) (d .read-next .ensures) (c .before .before .before .before .before .answer .given .1))
 
 loop-again : tie.Need-loop-again Inv-loop μ-loop
-loop-again c = let d = c .before .before .before .before .before .before .before .before in let l = d .before .before in let a = l .before .before in (stays-inside (a .args .bytes .now) (l .loop .place) (l .loop .samples) (d .read-next .ensures) (c .before .before .before .before .before .answer .given .1), buffer-kept (a .args .bytes .now) (l .loop .place) (l .loop .samples) (d .read-next .ensures) ∙ l .loop .inv .1, ap₂ (λ f n. listed (length (a .args .samples .now)) (a .args .base + d .read-next .result .place) (record { frames = f; samples = n }) (drop (d .read-next .result .place) (a .args .bytes .now))) (c .before .before .sum .ensures) (c .sum2 .ensures) ∙ sym (step-frame (a .args .bytes .now) (length (a .args .samples .now)) (a .args .base) (l .loop .place) (l .loop .inv .1) (d .read-next .ensures) (l .loop .totals) (c .before .before .before .before .before .answer .given .1)) ∙ l .loop .inv .2)
+loop-again c =
+    let d = c .before .before .before .before .before .before .before .before in
+    let l = d .before .before in
+    let a = l .before .before in
+    (stays-inside (a .args .bytes .now) (l .loop .place) (l .loop .samples) (d .read-next .ensures) (c .before .before .before .before .before .answer .given .1), buffer-kept (a .args .bytes .now) (l .loop .place) (l .loop .samples) (d .read-next .ensures) ∙ l .loop .inv .1, ap₂ (λ f n. listed (length (a .args .samples .now)) (a .args .base + d .read-next .result .place) (record { frames = f; samples = n }) (drop (d .read-next .result .place) (a .args .bytes .now))) (c .before .before .sum .ensures) (c .sum2 .ensures) ∙ sym (step-frame (a .args .bytes .now) (length (a .args .samples .now)) (a .args .base) (l .loop .place) (l .loop .inv .1) (d .read-next .ensures) (l .loop .totals) (c .before .before .before .before .before .answer .given .1)) ∙ l .loop .inv .2)
 
 enum-known-answer-2 : tie.Need-enum-known-answer-2 Inv-loop μ-loop
 enum-known-answer-2 c = search needs
 
 same-length : tie.Need-same-length Inv-loop μ-loop
-same-length c = let d = c .before .before .before .before in let l = d .before .before in let a = l .before .before in buffer-kept (a .args .bytes .now) (l .loop .place) (l .loop .samples) (d .read-next .ensures) ∙ l .loop .inv .1
+same-length c =
+    let d = c .before .before .before .before in
+    let l = d .before .before in
+    let a = l .before .before in
+    buffer-kept (a .args .bytes .now) (l .loop .place) (l .loop .samples) (d .read-next .ensures) ∙ l .loop .inv .1
 
 returns : tie.Need-returns Inv-loop μ-loop
-returns c = let d = c .before .before .before .before in let l = d .before .before in let a = l .before .before in record { inside = l .loop .inv .0; all = sym (l .loop .inv .2) ∙ step-refused (a .args .bytes .now) (length (a .args .samples .now)) (a .args .base) (l .loop .place) (l .loop .inv .1) (d .read-next .ensures) (l .loop .totals) (c .before .answer2 .given .1) }
+returns c =
+    let d = c .before .before .before .before in
+    let l = d .before .before in
+    let a = l .before .before in
+    record { inside = l .loop .inv .0; all = sym (l .loop .inv .2) ∙ step-refused (a .args .bytes .now) (length (a .args .samples .now)) (a .args .base) (l .loop .place) (l .loop .inv .1) (d .read-next .ensures) (l .loop .totals) (c .before .answer2 .given .1) }
 
 pub list-frames-spec : {M : Type 1} → statement M
 list-frames-spec =

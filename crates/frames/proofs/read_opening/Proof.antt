@@ -13,7 +13,9 @@ slice-reshare-prefix-is-header : tie.Need-slice-reshare-prefix-is-header
 slice-reshare-prefix-is-header c = search needs
 
 slice-aggregate-is-header : tie.Need-slice-aggregate-is-header
-slice-aggregate-is-header c = let f = c .before .before .before in sym (length-take-le (f .fill .result .held) (f .fill .last .1 .0) (omega (arith, f .fill .ensures .most, f .fill .kept .1 .0)))
+slice-aggregate-is-header c =
+    let f = c .before .before .before in
+    sym (length-take-le (f .fill .result .held) (f .fill .last .1 .0) (omega (arith, f .fill .ensures .most, f .fill .kept .1 .0)))
 
 is-header-requires : tie.Need-is-header-requires
 is-header-requires c κs = search needs
@@ -31,7 +33,9 @@ slice-reshare-prefix-opening-of : tie.Need-slice-reshare-prefix-opening-of
 slice-reshare-prefix-opening-of c = search needs
 
 slice-aggregate-opening-of : tie.Need-slice-aggregate-opening-of
-slice-aggregate-opening-of c = let f = c .before .before .before in sym (length-take-le (f .fill2 .result .held) (f .fill2 .last .1 .0) (omega (arith, f .fill2 .ensures .most, f .fill2 .kept .1 .0)))
+slice-aggregate-opening-of c =
+    let f = c .before .before .before in
+    sym (length-take-le (f .fill2 .result .held) (f .fill2 .last .1 .0) (omega (arith, f .fill2 .ensures .most, f .fill2 .kept .1 .0)))
 
 opening-of-requires : tie.Need-opening-of-requires
 opening-of-requires c κs = search needs

@@ -20,7 +20,10 @@ returns : tie.Need-returns
 returns c = search needs
 
 cast-result : tie.Need-cast-result
-cast-result c = let f = c .before .fits .error in let l = c .if1 .taken in rw (toZ-ofZ f) (not-negative (c .before .args .error) f (rw (toZ-ofZ f) at l))
+cast-result c =
+    let f = c .before .fits .error in
+    let l = c .if1 .taken in
+    rw (toZ-ofZ f) (not-negative (c .before .args .error) f (rw (toZ-ofZ f) at l))
 
 returns-2 : tie.Need-returns-2
 returns-2 c = search needs

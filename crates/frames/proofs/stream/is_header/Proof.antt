@@ -17,19 +17,31 @@ shared-slice-read-if3 : tie.Need-shared-slice-read-if3
 shared-slice-read-if3 c = search needs
 
 returns-3 : tie.Need-returns-3
-returns-3 c = let e2 = c .before .before in let e1 = e2 .before .before in no-l (e1 .before .args .bytes .now) (e1 .if1 .left) (e2 .if2 .left) (c .if3 .taken)
+returns-3 c =
+    let e2 = c .before .before in
+    let e1 = e2 .before .before in
+    no-l (e1 .before .args .bytes .now) (e1 .if1 .left) (e2 .if2 .left) (c .if3 .taken)
 
 shared-slice-read-if4 : tie.Need-shared-slice-read-if4
 shared-slice-read-if4 c = search needs
 
 returns-4 : tie.Need-returns-4
-returns-4 c = let e3 = c .before .before in let e2 = e3 .before .before in let e1 = e2 .before .before in no-a (e1 .before .args .bytes .now) (e1 .if1 .left) (e2 .if2 .left) (e3 .if3 .left) (c .if4 .taken)
+returns-4 c =
+    let e3 = c .before .before in
+    let e2 = e3 .before .before in
+    let e1 = e2 .before .before in
+    no-a (e1 .before .args .bytes .now) (e1 .if1 .left) (e2 .if2 .left) (e3 .if3 .left) (c .if4 .taken)
 
 shared-slice-read-result : tie.Need-shared-slice-read-result
 shared-slice-read-result c = search needs
 
 returns-5 : tie.Need-returns-5
-returns-5 c = let e4 = c .before in let e3 = e4 .before .before in let e2 = e3 .before .before in let e1 = e2 .before .before in by-c (e1 .before .args .bytes .now) (e1 .if1 .left) (e2 .if2 .left) (e3 .if3 .left) (e4 .if4 .left)
+returns-5 c =
+    let e4 = c .before in
+    let e3 = e4 .before .before in
+    let e2 = e3 .before .before in
+    let e1 = e2 .before .before in
+    by-c (e1 .before .args .bytes .now) (e1 .if1 .left) (e2 .if2 .left) (e3 .if3 .left) (e4 .if4 .left)
 
 pub is-header-spec : {M : Type 1} → statement M
 is-header-spec =

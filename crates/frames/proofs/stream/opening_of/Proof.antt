@@ -21,10 +21,17 @@ is-header-requires : tie.Need-is-header-requires Inv-loop μ-loop
 is-header-requires c κs = search needs
 
 returns : tie.Need-returns Inv-loop μ-loop
-returns c = let h = c .before in let s = h .before .before .args .bytes .now in sym (opens-not s (sym (h .is-header .ensures) ∙ not-true (h .is-header .result) (c .if1 .taken)))
+returns c =
+    let h = c .before in
+    let s = h .before .before .args .bytes .now in
+    sym (opens-not s (sym (h .is-header .ensures) ∙ not-true (h .is-header .result) (c .if1 .taken)))
 
 loop-holds : tie.Need-loop-holds Inv-loop μ-loop
-loop-holds c = let h = c .before in let s = h .before .before .args .bytes .now in let m = sym (h .is-header .ensures) ∙ not-false (h .is-header .result) (c .if1 .left) in (marked-long s m, sym (opens s m))
+loop-holds c =
+    let h = c .before in
+    let s = h .before .before .args .bytes .now in
+    let m = sym (h .is-header .ensures) ∙ not-false (h .is-header .result) (c .if1 .left) in
+    (marked-long s m, sym (opens s m))
 
 sub-left : tie.Need-sub-left Inv-loop μ-loop
 sub-left c = search needs
@@ -33,7 +40,10 @@ sub-if2 : tie.Need-sub-if2 Inv-loop μ-loop
 sub-if2 c = search needs
 
 returns-2 : tie.Need-returns-2 Inv-loop μ-loop
-returns-2 c = let l = c .before .before in let s = l .before .before .before .before .args .bytes .now in sym (short-head s (l .loop .place) (l .loop .left) (c .before .loop-test .taken) (c .if2 .taken)) ∙ l .loop .inv .1
+returns-2 c =
+    let l = c .before .before in
+    let s = l .before .before .before .before .args .bytes .now in
+    sym (short-head s (l .loop .place) (l .loop .left) (c .before .loop-test .taken) (c .if2 .taken)) ∙ l .loop .inv .1
 
 block-length-requires : tie.Need-block-length-requires Inv-loop μ-loop
 block-length-requires c κs = search needs
@@ -45,7 +55,12 @@ sub-if3 : tie.Need-sub-if3 Inv-loop μ-loop
 sub-if3 c = search needs
 
 returns-3 : tie.Need-returns-3 Inv-loop μ-loop
-returns-3 c = let l = c .before .before .before .before in let s = l .before .before .before .before .args .bytes .now in let b = c .before in let e = b .before in sym (short-block s (l .loop .place) (e .if2 .left) (l .loop .left) (e .before .loop-test .taken) (omega (arith, b .block-length .ensures, c .if3 .taken))) ∙ l .loop .inv .1
+returns-3 c =
+    let l = c .before .before .before .before in
+    let s = l .before .before .before .before .args .bytes .now in
+    let b = c .before in
+    let e = b .before in
+    sym (short-block s (l .loop .place) (e .if2 .left) (l .loop .left) (e .before .loop-test .taken) (omega (arith, b .block-length .ensures, c .if3 .taken))) ∙ l .loop .inv .1
 
 add-next : tie.Need-add-next Inv-loop μ-loop
 add-next c = search needs
@@ -57,16 +72,32 @@ shared-slice-read-if4 : tie.Need-shared-slice-read-if4 Inv-loop μ-loop
 shared-slice-read-if4 c = search needs
 
 returns-4 : tie.Need-returns-4 Inv-loop μ-loop
-returns-4 c = let l = c .before .before .before .before .before .before in let s = l .before .before .before .before .args .bytes .now in let t = c .before .before in let b = t .before in let e = b .before in ap (λ n. Opening.HeaderTo (l .loop .place + 4 + n)) (b .block-length .ensures) ∙ sym (last-block s (l .loop .place) (e .if2 .left) (omega (arith, b .block-length .ensures, t .if3 .left)) (l .loop .left) (e .before .loop-test .taken) (c .if4 .taken)) ∙ l .loop .inv .1
+returns-4 c =
+    let l = c .before .before .before .before .before .before in
+    let s = l .before .before .before .before .args .bytes .now in
+    let t = c .before .before in
+    let b = t .before in
+    let e = b .before in
+    ap (λ n. Opening.HeaderTo (l .loop .place + 4 + n)) (b .block-length .ensures) ∙ sym (last-block s (l .loop .place) (e .if2 .left) (omega (arith, b .block-length .ensures, t .if3 .left)) (l .loop .left) (e .before .loop-test .taken) (c .if4 .taken)) ∙ l .loop .inv .1
 
 loop-less : tie.Need-loop-less Inv-loop μ-loop
 loop-less c = search needs
 
 loop-again : tie.Need-loop-again Inv-loop μ-loop
-loop-again c = let l = c .before .before .before .before .before .before in let s = l .before .before .before .before .args .bytes .now in let t = c .before .before in let b = t .before in let e = b .before in (omega (arith, t .if3 .left, l .loop .inv .0), ap (λ n. blocks (l .loop .left - 1) s (l .loop .place + 4 + n)) (b .block-length .ensures) ∙ sym (next-block s (l .loop .place) (e .if2 .left) (omega (arith, b .block-length .ensures, t .if3 .left)) (l .loop .left) (e .before .loop-test .taken) (c .if4 .left)) ∙ l .loop .inv .1)
+loop-again c =
+    let l = c .before .before .before .before .before .before in
+    let s = l .before .before .before .before .args .bytes .now in
+    let t = c .before .before in
+    let b = t .before in
+    let e = b .before in
+    (omega (arith, t .if3 .left, l .loop .inv .0), ap (λ n. blocks (l .loop .left - 1) s (l .loop .place + 4 + n)) (b .block-length .ensures) ∙ sym (next-block s (l .loop .place) (e .if2 .left) (omega (arith, b .block-length .ensures, t .if3 .left)) (l .loop .left) (e .before .loop-test .taken) (c .if4 .left)) ∙ l .loop .inv .1)
 
 returns-5 : tie.Need-returns-5 Inv-loop μ-loop
-returns-5 c = let l = c .before in let s = l .before .before .before .before .args .bytes .now in let z : l .loop .left ≡ 0 = omega arith in sym (none-left s (l .loop .place)) ∙ ap (λ n. blocks n s (l .loop .place)) (sym z) ∙ l .loop .inv .1
+returns-5 c =
+    let l = c .before in
+    let s = l .before .before .before .before .args .bytes .now in
+    let z : l .loop .left ≡ 0 = omega arith in
+    sym (none-left s (l .loop .place)) ∙ ap (λ n. blocks n s (l .loop .place)) (sym z) ∙ l .loop .inv .1
 
 pub opening-of-spec : {M : Type 1} → statement M
 opening-of-spec =

@@ -1,5 +1,5 @@
--- `frames::window::fill` goes on by reads that leave what is held (Filling). It ends: a read brings a byte, or is one of so
--- many that may be interrupted. Assumes nothing.
+-- `frames::window::fill` goes on by reads that leave what is held (Filling). It ends: a read brings a byte, or is one of
+-- so many that may be interrupted. Assumes nothing.
 use Prim.Native.Nat.{_+_, _-_}
 use native.Mathlib.Omega.{arith}
 use borrow.Author.Needs.{needs}
@@ -24,31 +24,45 @@ enum-known-got : tie.Need-enum-known-got Inv-loop μ-loop
 enum-known-got c = search needs
 
 add-held : tie.Need-add-held Inv-loop μ-loop
-add-held c = let d = c .before .before .before .before .before in omega (arith, fits (d .before .before .before .loop .inv) (d .read-once .kept .1 .0) (d .read-once .ensures) (c .before .got .given .1))
+add-held c =
+    let d = c .before .before .before .before .before in
+    omega (arith, fits (d .before .before .before .loop .inv) (d .read-once .kept .1 .0) (d .read-once .ensures) (c .before .got .given .1))
 
 loop-less : tie.Need-loop-less Inv-loop μ-loop
-loop-less c = let d = c .before .before .before .before .before in omega (arith, some (d .before .before .before .loop .inv) (d .read-once .kept .1 .0) (d .read-once .ensures) (c .before .got .given .1))
+loop-less c =
+    let d = c .before .before .before .before .before in
+    omega (arith, some (d .before .before .before .loop .inv) (d .read-once .kept .1 .0) (d .read-once .ensures) (c .before .got .given .1))
 
 loop-again : tie.Need-loop-again Inv-loop μ-loop
-loop-again c = let d = c .before .before .before .before .before in grows (d .before .before .before .loop .inv) (d .read-once .kept .1 .0) (d .read-once .ensures) (c .before .got .given .1)
+loop-again c =
+    let d = c .before .before .before .before .before in
+    grows (d .before .before .before .loop .inv) (d .read-once .kept .1 .0) (d .read-once .ensures) (c .before .got .given .1)
 
 enum-told : tie.Need-enum-told Inv-loop μ-loop
 enum-told c = search needs
 
 same-length : tie.Need-same-length Inv-loop μ-loop
-same-length c = let d = c .before .before .before .before in stays (d .before .before .before .loop .inv) (d .read-once .kept .1 .0) (d .read-once .ensures) .long
+same-length c =
+    let d = c .before .before .before .before in
+    stays (d .before .before .before .loop .inv) (d .read-once .kept .1 .0) (d .read-once .ensures) .long
 
 returns : tie.Need-returns Inv-loop μ-loop
-returns c = let d = c .before .before .before .before in done Rest.Ended (stays (d .before .before .before .loop .inv) (d .read-once .kept .1 .0) (d .read-once .ensures)) tt
+returns c =
+    let d = c .before .before .before .before in
+    done Rest.Ended (stays (d .before .before .before .loop .inv) (d .read-once .kept .1 .0) (d .read-once .ensures)) tt
 
 enum-told-2 : tie.Need-enum-told-2 Inv-loop μ-loop
 enum-told-2 c = search needs
 
 same-length-2 : tie.Need-same-length-2 Inv-loop μ-loop
-same-length-2 c = let d = c .before .before .before .before .before in stays (d .before .before .before .loop .inv) (d .read-once .kept .1 .0) (d .read-once .ensures) .long
+same-length-2 c =
+    let d = c .before .before .before .before .before in
+    stays (d .before .before .before .loop .inv) (d .read-once .kept .1 .0) (d .read-once .ensures) .long
 
 returns-2 : tie.Need-returns-2 Inv-loop μ-loop
-returns-2 c = let d = c .before .before .before .before .before in done (Rest.Failed _) (stays (d .before .before .before .loop .inv) (d .read-once .kept .1 .0) (d .read-once .ensures)) tt
+returns-2 c =
+    let d = c .before .before .before .before .before in
+    done (Rest.Failed _) (stays (d .before .before .before .loop .inv) (d .read-once .kept .1 .0) (d .read-once .ensures)) tt
 
 sub-tries : tie.Need-sub-tries Inv-loop μ-loop
 sub-tries c = search needs
@@ -57,16 +71,22 @@ loop-less-2 : tie.Need-loop-less-2 Inv-loop μ-loop
 loop-less-2 c = search needs
 
 loop-again-2 : tie.Need-loop-again-2 Inv-loop μ-loop
-loop-again-2 c = let d = c .before .before .before .before .before in stays (d .before .before .before .loop .inv) (d .read-once .kept .1 .0) (d .read-once .ensures)
+loop-again-2 c =
+    let d = c .before .before .before .before .before in
+    stays (d .before .before .before .loop .inv) (d .read-once .kept .1 .0) (d .read-once .ensures)
 
 enum-known-got-2 : tie.Need-enum-known-got-2 Inv-loop μ-loop
 enum-known-got-2 c = search needs
 
 same-length-3 : tie.Need-same-length-3 Inv-loop μ-loop
-same-length-3 c = let d = c .before .before .before .before .before in stays (d .before .before .before .loop .inv) (d .read-once .kept .1 .0) (d .read-once .ensures) .long
+same-length-3 c =
+    let d = c .before .before .before .before .before in
+    stays (d .before .before .before .loop .inv) (d .read-once .kept .1 .0) (d .read-once .ensures) .long
 
 returns-3 : tie.Need-returns-3 Inv-loop μ-loop
-returns-3 c = let d = c .before .before .before .before .before in done (Rest.Failed _) (stays (d .before .before .before .loop .inv) (d .read-once .kept .1 .0) (d .read-once .ensures)) tt
+returns-3 c =
+    let d = c .before .before .before .before .before in
+    done (Rest.Failed _) (stays (d .before .before .before .loop .inv) (d .read-once .kept .1 .0) (d .read-once .ensures)) tt
 
 same-length-4 : tie.Need-same-length-4 Inv-loop μ-loop
 same-length-4 c = c .before .loop .inv .long

@@ -31,13 +31,17 @@ same-length : tie.Need-same-length
 same-length c = search needs
 
 returns : tie.Need-returns
-returns c = let s = c .before .before .before .before .before .before .before .before in record { kept = kept (s .args .window .now) (c .before .before .before .before .before .read .last .1 .0) (s .args .held) (s .pre); brought = tt }
+returns c =
+    let s = c .before .before .before .before .before .before .before .before in
+    record { kept = kept (s .args .window .now) (c .before .before .before .before .before .read .last .1 .0) (s .args .held) (s .pre); brought = tt }
 
 same-length-2 : tie.Need-same-length-2
 same-length-2 c = search needs
 
 returns-2 : tie.Need-returns-2
-returns-2 c = let s = c .before .before .before .before .before .before .before .before in record { kept = kept (s .args .window .now) (c .before .before .before .before .before .read .last .1 .0) (s .args .held) (s .pre); brought = tt }
+returns-2 c =
+    let s = c .before .before .before .before .before .before .before .before in
+    record { kept = kept (s .args .window .now) (c .before .before .before .before .before .read .last .1 .0) (s .args .held) (s .pre); brought = tt }
 
 sub-count : tie.Need-sub-count
 sub-count c = search needs
@@ -55,13 +59,17 @@ same-length-3 : tie.Need-same-length-3
 same-length-3 c = search needs
 
 returns-3 : tie.Need-returns-3
-returns-3 c = let s = c .before .before .before .before .before .before .before .before .before .before in record { kept = kept (s .args .window .now) (c .before .before .before .before .before .before .before .read .last .1 .0) (s .args .held) (s .pre); brought = tt }
+returns-3 c =
+    let s = c .before .before .before .before .before .before .before .before .before .before in
+    record { kept = kept (s .args .window .now) (c .before .before .before .before .before .before .before .read .last .1 .0) (s .args .held) (s .pre); brought = tt }
 
 same-length-4 : tie.Need-same-length-4
 same-length-4 c = search needs
 
 returns-4 : tie.Need-returns-4
-returns-4 c = let s = c .before .before .before .before .before .before .before .before .before .before in record { kept = kept (s .args .window .now) (c .before .before .before .before .before .before .before .read .last .1 .0) (s .args .held) (s .pre); brought = (omega arith, omega (arith, c .before .count .ensures .0, mid-len (s .args .held) (length (s .args .window .now)) (s .args .window .now) (omega arith))) }
+returns-4 c =
+    let s = c .before .before .before .before .before .before .before .before .before .before in
+    record { kept = kept (s .args .window .now) (c .before .before .before .before .before .before .before .read .last .1 .0) (s .args .held) (s .pre); brought = (omega arith, omega (arith, c .before .count .ensures .0, mid-len (s .args .held) (length (s .args .window .now)) (s .args .window .now) (omega arith))) }
 
 pub read-once-spec : {M : Type 1} → statement M
 read-once-spec =

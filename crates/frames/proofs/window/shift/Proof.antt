@@ -1,3 +1,4 @@
+-- The first i bytes are those from `used` on (Shifting). Assumes nothing.
 use Prim.Native.Nat.{_-_}
 use native.Mathlib.Omega.{arith}
 use mathlib.Core.Path.{refl}
