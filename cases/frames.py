@@ -296,6 +296,11 @@ def main():
             tally.hold(name, run([path])[0], wanted)
         pipes(tally, small, long_frame(WINDOW + 1).data)
         words(tally, folder, small)
+    tried = tally.passed + tally.failed
+    counts = dict(line.split() for line in open(os.path.join(HERE, "COUNTS")) if not line.startswith("#"))
+    if counts.get("frames") != str(tried):
+        tally.failed += 1
+        print(f"frames: {tried} cards, and cases/COUNTS says {counts.get('frames')}")
     print(f"frames: {tally.passed} passed, {tally.failed} failed")
     return 0 if tally.failed == 0 and tally.passed > 0 else 1
 
