@@ -12,8 +12,8 @@ use Rattle.error.specs.declared.Refusal.{Refusal}
 use Rattle.error.specs.Numbers.{numberOf}
 use Rattle.error.proofs.Outcome.{some-number}
 use Rattle.rfc9639.specs.Read.{Report, refusal, Result, result, read}
-use Rattle.rfc9639.specs.FrameByFrame.{Kind, frame, undecided, refused, kindOf, kind, goesOn, answers}
-use Rattle.demands.proofs.FrameByFrame.{frame-zero, kind-is, Lawful, unrolled, lawful}
+use Rattle.rfc9639.specs.FrameByFrame.{Verdict, accept, undecided, refuse, verdictOf, verdict, goesOn, answers}
+use Rattle.demands.proofs.FrameByFrame.{frame-zero, verdict-is, Lawful, unrolled, lawful}
 use Rattle.frame.specs.declared.Accepted.{Accepted}
 use Rattle.frame.specs.declared.Answer.{Answer}
 use Rattle.frame.specs.Reads.{reportOf}
@@ -40,18 +40,18 @@ module _ {one : List ℕ → Result} (law : Lawful one) where
   abbrev shown : ℕ → Totals → List ℕ → Listing
   shown place t s = listing place t (answers one s)
 
-  pub frame-shown : (place : ℕ) (t : Totals) (s : List ℕ) → kind (one s) ≡ frame
+  pub frame-shown : (place : ℕ) (t : Totals) (s : List ℕ) → verdict (one s) ≡ accept
       → shown place t s
       ≡ shown (place + one s .report .consumed) (counted t (one s .report .channels) (one s .report .size)) (drop (one s .report .consumed) s)
   unfolding goesOn
   frame-shown place t s e =
-      ap (listing place t) (unrolled law s ∙ ap (λ (k : Kind). one s ∷ goesOn k (answers one (drop (one s .report .consumed) s))) e)
+      ap (listing place t) (unrolled law s ∙ ap (λ (k : Verdict). one s ∷ goesOn k (answers one (drop (one s .report .consumed) s))) e)
       ∙ frame-listing place t (one s) (answers one (drop (one s .report .consumed) s)) (frame-zero (one s .report .number) e)
 
-  pub other-shown : (place : ℕ) (t : Totals) (s : List ℕ) → (kind (one s) ≡ frame → ⊥)
+  pub other-shown : (place : ℕ) (t : Totals) (s : List ℕ) → (verdict (one s) ≡ accept → ⊥)
       → shown place t s ≡ record { place = place; totals = t; number = one s .report .number }
-  unfolding kindOf
-  other-shown place t s n = ap (listing place t) (unrolled law s) ∙ stop-listing place t (one s) _ (λ z. n (kind-is z refl))
+  unfolding verdictOf
+  other-shown place t s n = ap (listing place t) (unrolled law s) ∙ stop-listing place t (one s) _ (λ z. n (verdict-is z refl))
 
   -- What a window shows, and what is then known of every card that goes on after it.
   record Found (place : ℕ) (t : Totals) (w : List ℕ) : Type 0 where
@@ -59,8 +59,8 @@ module _ {one : List ℕ → Result} (law : Lawful one) where
     totals : Totals
     number : ℕ
     is : shown place t w ≡ record { place = place + within; totals = totals; number = number }
-    goes : kindOf number ≡ undecided → (more : List ℕ) → shown place t (w ++ more) ≡ shown (place + within) totals (drop within w ++ more)
-    stands : (kindOf number ≡ undecided → ⊥) → (more : List ℕ) → shown place t (w ++ more) ≡ shown place t w
+    goes : verdictOf number ≡ undecided → (more : List ℕ) → shown place t (w ++ more) ≡ shown (place + within) totals (drop within w ++ more)
+    stands : (verdictOf number ≡ undecided → ⊥) → (more : List ℕ) → shown place t (w ++ more) ≡ shown place t w
 
   module _ (place : ℕ) (t : Totals) (w : List ℕ) where
     abbrev taken : ℕ
@@ -70,17 +70,17 @@ module _ {one : List ℕ → Result} (law : Lawful one) where
     after = counted t (one w .report .channels) (one w .report .size)
 
     -- what is decided in the window is decided in the card
-    longer : (kind (one w) ≡ undecided → ⊥) → (more : List ℕ) → one (w ++ more) ≡ one w
+    longer : (verdict (one w) ≡ undecided → ⊥) → (more : List ℕ) → one (w ++ more) ≡ one w
     longer known more = law .extended w more known
 
-    module _ (e : kind (one w) ≡ frame) where
-      frame-known : kind (one w) ≡ undecided → ⊥
+    module _ (e : verdict (one w) ≡ accept) where
+      frame-known : verdict (one w) ≡ undecided → ⊥
       frame-known u = let z : _≡_ {A = ℕ} 0 1 = cc in omega arith
 
       frame-longer : (more : List ℕ) → shown place t (w ++ more) ≡ shown (place + taken) after (drop taken w ++ more)
       frame-longer more =
           let same = longer frame-known more in
-          frame-shown place t (w ++ more) (ap kind same ∙ e)
+          frame-shown place t (w ++ more) (ap verdict same ∙ e)
           ∙ ap (λ (q : Result). shown (place + q .report .consumed) (counted t (q .report .channels) (q .report .size)) (drop (q .report .consumed) (w ++ more))) same
           ∙ ap (shown (place + taken) after) (drop-append-le taken w more (law .there w e))
 
@@ -98,7 +98,7 @@ module _ {one : List ℕ → Result} (law : Lawful one) where
             stands = λ known more. frame-longer more ∙ f .stands known more ∙ sym (frame-shown place t w e);
           }
 
-    undecided-found : kind (one w) ≡ undecided → Found place t w
+    undecided-found : verdict (one w) ≡ undecided → Found place t w
     undecided-found e =
         let sum : place ≡ place + 0 = omega arith in
         record {
@@ -112,11 +112,11 @@ module _ {one : List ℕ → Result} (law : Lawful one) where
           stands = λ known. absurd (known e);
         }
 
-    refused-found : kind (one w) ≡ refused → Found place t w
+    refused-found : verdict (one w) ≡ refuse → Found place t w
     refused-found e =
         let sum : place ≡ place + 0 = omega arith in
-        let none : kind (one w) ≡ frame → ⊥ = λ f. let z : _≡_ {A = ℕ} 0 1 = cc in omega arith in
-        let known : kind (one w) ≡ undecided → ⊥ = λ u. let z : _≡_ {A = ℕ} 0 1 = cc in omega arith in
+        let none : verdict (one w) ≡ accept → ⊥ = λ f. let z : _≡_ {A = ℕ} 0 1 = cc in omega arith in
+        let known : verdict (one w) ≡ undecided → ⊥ = λ u. let z : _≡_ {A = ℕ} 0 1 = cc in omega arith in
         record {
           within = 0;
           totals = t;
@@ -125,20 +125,20 @@ module _ {one : List ℕ → Result} (law : Lawful one) where
           goes = λ u. absurd (known u);
           stands = λ k more.
               let same = longer known more in
-              other-shown place t (w ++ more) (λ f. none (sym (ap kind same) ∙ f))
+              other-shown place t (w ++ more) (λ f. none (sym (ap verdict same) ∙ f))
               ∙ ap (λ (q : Result). record { place = place; totals = t; number = q .report .number }) same ∙ sym (other-shown place t w none);
         }
 
   found : (n : ℕ) (place : ℕ) (t : Totals) (w : List ℕ) → length w < n → Found place t w
   found zero place t w h = absurd (omega arith)
-  found (suc n) place t w h = go (kind (one w)) refl (found n)
+  found (suc n) place t w h = go (verdict (one w)) refl (found n)
     where
-      go : (k : Kind) → kind (one w) ≡ k → ((p : ℕ) (u : Totals) (v : List ℕ) → length v < n → Found p u v) → Found place t w
-      go frame e again =
+      go : (k : Verdict) → verdict (one w) ≡ k → ((p : ℕ) (u : Totals) (v : List ℕ) → length v < n → Found p u v) → Found place t w
+      go accept e again =
           frame-found place t w e
           (again _ _ _ (omega (arith, law .there w e, law .some w e, length-drop (one w .report .consumed) w)))
       go undecided e again = undecided-found place t w e
-      go refused e again = refused-found place t w e
+      go refuse e again = refused-found place t w e
 
   module _ (place : ℕ) (t : Totals) (w : List ℕ) (k : ℕ) {number : ℕ} {u : Totals}
       (is : shown place t w ≡ record { place = place + k; totals = u; number = number }) where
@@ -149,15 +149,15 @@ module _ {one : List ℕ → Result} (law : Lawful one) where
     alike = sym (f .is) ∙ is
 
     -- where more bytes may change the answer at a place, the card goes on from there
-    pub goes-on-from : kindOf number ≡ undecided → (more : List ℕ) → shown place t (w ++ more) ≡ shown (place + k) u (drop k w ++ more)
+    pub goes-on-from : verdictOf number ≡ undecided → (more : List ℕ) → shown place t (w ++ more) ≡ shown (place + k) u (drop k w ++ more)
     goes-on-from e more =
         let same : f .within ≡ k = omega (arith, ap (λ (l : Listing). l .place) alike) in
-        f .goes (ap kindOf (ap (λ (l : Listing). l .number) alike) ∙ e) more
+        f .goes (ap verdictOf (ap (λ (l : Listing). l .number) alike) ∙ e) more
         ∙ ap₂ (λ m (v : Totals). shown (place + m) v (drop m w ++ more)) same (ap (λ (l : Listing). l .totals) alike)
 
     -- where they cannot, they do not
-    pub stands-there : (kindOf number ≡ undecided → ⊥) → (more : List ℕ) → shown place t (w ++ more) ≡ record { place = place + k; totals = u; number = number }
-    stands-there known more = f .stands (λ e. known (sym (ap kindOf (ap (λ (l : Listing). l .number) alike)) ∙ e)) more ∙ is
+    pub stands-there : (verdictOf number ≡ undecided → ⊥) → (more : List ℕ) → shown place t (w ++ more) ≡ record { place = place + k; totals = u; number = number }
+    stands-there known more = f .stands (λ e. known (sym (ap verdictOf (ap (λ (l : Listing). l .number) alike)) ∙ e)) more ∙ is
 
 -- ---- a step of a walk
 
@@ -176,12 +176,12 @@ module _ (s : List ℕ) (room base : ℕ) where
 
     pub step-frame : {f : Accepted} → r .answer ≡ Answer.Frame f
         → listed room (base + place) t (drop place s) ≡ listed room (base + r .place) (counted t (f .channels) (f .size)) (drop (r .place) s)
-    unfolding kindOf
+    unfolding verdictOf
     step-frame {f} e =
         let q = one (drop place s) .report in
         let is = ap reportOf (sym e) ∙ told in
         let sum : base + place + q .consumed ≡ base + r .place = omega (arith, next) in
-        frame-shown (lawful (record { room = room })) (base + place) t (drop place s) (kind-is (sym (ap (λ (p : Report). p .number) is)) refl)
+        frame-shown (lawful (record { room = room })) (base + place) t (drop place s) (verdict-is (sym (ap (λ (p : Report). p .number) is)) refl)
         ∙ ap₂ (λ m (l : List ℕ). listed room m (counted t (q .channels) (q .size)) l) sum (drop-drop (q .consumed) place s ∙ ap (λ n. drop n s) (sym next))
         ∙ ap₂ (λ a c. listed room (base + r .place) (counted t a c) (drop (r .place) s)) (sym (ap (λ (p : Report). p .channels) is)) (sym (ap (λ (p : Report). p .size) is))
 

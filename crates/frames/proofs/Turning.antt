@@ -10,7 +10,7 @@ use Rattle.error.specs.declared.Refusal.the-variants.{NothingLeft, CutShort, No
 use Rattle.error.specs.declared.Need.{Need}
 use Rattle.error.specs.Numbers.{numberOf}
 use Rattle.error.specs.Needs.{needsOf}
-use Rattle.rfc9639.specs.FrameByFrame.{Kind, undecided, refused, kindOf}
+use Rattle.rfc9639.specs.FrameByFrame.{Verdict, undecided, refuse, verdictOf}
 use Rattle.demands.proofs.FrameByFrame.{lawful}
 use Rattle.frames.specs.declared.window.Rest.{Rest}
 use Rattle.frames.specs.declared.window.Filled.{Filled}
@@ -67,33 +67,33 @@ module _ (was : List ℕ) (card : Card) (place : ℕ) (e : Refusal) (sound : Sou
 
 -- ---- what a refusal asks for, and its kind
 
-unfoldable pub kindFor : Need → Kind
-kindFor Need.Wait = undecided
-kindFor Need.Room = refused
-kindFor Need.Final = refused
+unfoldable pub verdictFor : Need → Verdict
+verdictFor Need.Wait = undecided
+verdictFor Need.Room = refuse
+verdictFor Need.Final = refuse
 
-kind-needs : (e : Refusal) → kindOf (numberOf e) ≡ kindFor (needsOf e)
-unfolding kindOf kindFor
-kind-needs NothingLeft = refl
-kind-needs CutShort = refl
-kind-needs NotSync = refl
-kind-needs Reserved = refl
-kind-needs BadNumber = refl
-kind-needs HeaderSum = refl
-kind-needs NoRoom = refl
-kind-needs NotDone = refl
-kind-needs BadShape = refl
-kind-needs FrameSum = refl
-kind-needs BadArgument = refl
-kind-needs SampleRange = refl
-kind-needs OutputRoom = refl
+verdict-needs : (e : Refusal) → verdictOf (numberOf e) ≡ verdictFor (needsOf e)
+unfolding verdictOf verdictFor
+verdict-needs NothingLeft = refl
+verdict-needs CutShort = refl
+verdict-needs NotSync = refl
+verdict-needs Reserved = refl
+verdict-needs BadNumber = refl
+verdict-needs HeaderSum = refl
+verdict-needs NoRoom = refl
+verdict-needs NotDone = refl
+verdict-needs BadShape = refl
+verdict-needs FrameSum = refl
+verdict-needs BadArgument = refl
+verdict-needs SampleRange = refl
+verdict-needs OutputRoom = refl
 
-waits : (e : Refusal) → needsOf e ≡ Need.Wait → kindOf (numberOf e) ≡ undecided
-unfolding kindFor
-waits e w = kind-needs e ∙ ap kindFor w
+waits : (e : Refusal) → needsOf e ≡ Need.Wait → verdictOf (numberOf e) ≡ undecided
+unfolding verdictFor
+waits e w = verdict-needs e ∙ ap verdictFor w
 
-decided : (e : Refusal) (n : Need) → needsOf e ≡ n → kindFor n ≡ refused → kindOf (numberOf e) ≡ undecided → ⊥
-decided e n is k u = let r = kind-needs e ∙ ap kindFor is ∙ k in let z : _≡_ {A = ℕ} 0 1 = cc in omega arith
+decided : (e : Refusal) (n : Need) → needsOf e ≡ n → verdictFor n ≡ refuse → verdictOf (numberOf e) ≡ undecided → ⊥
+decided e n is k u = let r = verdict-needs e ∙ ap verdictFor is ∙ k in let z : _≡_ {A = ℕ} 0 1 = cc in omega arith
 
 -- ---- what is listed
 
@@ -172,7 +172,7 @@ module _ (room : ℕ) (was : List ℕ) (card : Card) (r : Listed) (sound : Sound
     turns left long (Turn.On next) c = carries next left long c
     turns left long (Turn.Over last) c = stops last c
 
-  pub refused-stops : (n : Need) → needsOf (r .refusal) ≡ n → kindFor n ≡ refused
+  pub refused-stops : (n : Need) → needsOf (r .refusal) ≡ n → verdictFor n ≡ refuse
       → Stops room was card (record { card = read; place = r .place; how = How.Refused (r .refusal) })
   refused-stops n is k = record {
     base = refl;

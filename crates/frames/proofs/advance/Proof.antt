@@ -4,7 +4,7 @@ use mathlib.Core.Path.{refl, sym, _∙_}
 use lib.ListN.{length}
 use lib.Seq.{length-take-le}
 use Rattle.error.specs.declared.Need.{Need}
-use Rattle.frames.proofs.Turning.{kindFor, place-inside, turns, refused-stops}
+use Rattle.frames.proofs.Turning.{verdictFor, place-inside, turns, refused-stops}
 use borrow.Author.Needs.{needs}
 use Rattle.frames.proofs.advance.Statement.{statement}
 use Rattle.frames.proofs.advance.Tie as tie
@@ -61,7 +61,7 @@ same-length-4 : tie.Need-same-length-4
 same-length-4 c = search needs
 
 returns-2 : tie.Need-returns-2
-unfolding kindFor
+unfolding verdictFor
 returns-2 c =
     let ls = c .before .before .before .before .before in
     let a = ls .before .before .before .before in
@@ -74,7 +74,7 @@ same-length-6 : tie.Need-same-length-6
 same-length-6 c = search needs
 
 returns-3 : tie.Need-returns-3
-unfolding kindFor
+unfolding verdictFor
 returns-3 c =
     let ls = c .before .before .before .before .before in
     let a = ls .before .before .before .before in
