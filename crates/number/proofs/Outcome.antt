@@ -7,6 +7,8 @@ use Rattle.number.proofs.wrapping_sub
 use Rattle.number.proofs.shift_up
 use Rattle.number.proofs.shift_down
 use Rattle.number.proofs.lesser
+use Rattle.number.proofs.saturating_sub
+use Rattle.number.proofs.shift_right
 
 pub low32-one : OneOutcome low32.ended low32.Reads.Learnt
 low32-one κs args r r′ left left′ p q = (one p q, refl)
@@ -25,3 +27,9 @@ shift-down-one κs args r r′ left left′ p q = (one p q, refl)
 
 pub lesser-one : OneOutcome lesser.ended lesser.Reads.Learnt
 lesser-one κs args r r′ left left′ p q = (one p q, refl)
+
+pub saturating-sub-one : OneOutcome saturating_sub.ended saturating_sub.Reads.Learnt
+saturating-sub-one κs args r r′ left left′ p q = (one p q, refl)
+
+pub shift-right-one : OneOutcome shift_right.ended shift_right.Reads.Learnt
+shift-right-one κs args r r′ left left′ p q = (one p q, refl)

@@ -1,5 +1,6 @@
 -- What a pen writes into some bytes, bit by bit. Where the bytes end, it stops: what is left falls off.
 use Prim.Native.Nat.{ℕ, _+_, _*_, _^_}
+use mathlib.Core.Path.{_≡_}
 use mathlib.Core.Bool.{Bool, _&&_}
 use mathlib.Core.List.{List, [], _∷_}
 use lib.Dec.{ltb}
@@ -36,3 +37,7 @@ inked bs p s = if isPen p then ink bs p s else record { pen = p; bytes = s }
 -- at the start of the bytes
 unfoldable pub fresh : Pen
 fresh = record { byte = 0; held = 0; bits = 0 }
+
+-- Where the pen stands after some bits, and what the bytes are then: what each function that writes promises.
+abbrev pub Writes : List ℕ → Pen → List ℕ → Pen → List ℕ → Type 0
+Writes bs p s after left = _≡_ {A = State} (record { pen = after; bytes = left }) (inked bs p s)
