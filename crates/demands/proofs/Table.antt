@@ -6,7 +6,7 @@ use native.Mathlib.Omega.{arith}
 use mathlib.Core.Logic.{_≢_, _⊎_, inl, inr}
 use mathlib.Core.Bool.{Bool, true, false, _||_}
 use mathlib.Core.Path.{_≡_, refl, ap, ap₂, sym, _∙_, subst}
-use mathlib.Core.List.{List, [], _∷_, _++_}
+use mathlib.Core.List.{List, _++_}
 use lib.Dec.{eqb}
 use lib.IntN.{ℤ, pos}
 use lib.ListN.{length, drop, replicate, length-replicate}
@@ -18,7 +18,7 @@ use Rattle.reading.proofs.Holding.{Meets, holds-at, Sized}
 use Rattle.rfc9639.specs.declared.FrameHeader.{FrameHeader}
 use Rattle.rfc9639.specs.Header.{sampleCount}
 use Rattle.rfc9639.specs.Frame.{Settings, opening, body, Frame, frame}
-use Rattle.rfc9639.specs.Read.{refusal, accepted, Result, untouched, zeroed, cutShort, begun, finished, resultOf, result, read}
+use Rattle.rfc9639.specs.Read.{refusal, accepted, Result, untouched, zeroed, begun, finished, resultOf, result, read}
 use Rattle.demands.proofs.Frames.{Early, Late, forbidden, not-done, bad-shape, frame-sum}
 use Rattle.demands.proofs.Answers.{cut-number}
 use Rattle.demands.proofs.Samples.{Open, begun-holds, body-holds, Sample}
@@ -56,9 +56,6 @@ module _ (s : List ℕ) (b : List ℤ) where
   filled-zeros n h = ap (λ k. replicate (sampleCount h) (pos 0) ++ drop k b) (length-replicate (sampleCount h) (pos 0))
 
   -- ---- a frame that has begun
-
-  begun-one : {h g : FrameHeader} → Begun h → Begun g → h ≡ g
-  begun-one x y = let e = sym (x .1) ∙ y .1 in cc
 
   -- what stops a frame that has begun is a refusal of its subframes or its footer
   begun-late : {h : FrameHeader} {at : Place} {n : ℕ} → runAt (begun set) s (placeOf 0) ≡ gotAt h at → runAt (frame set) s (placeOf 0) ≡ refusedAt n → Late n

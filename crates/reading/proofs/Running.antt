@@ -3,7 +3,7 @@
 -- Assumes nothing.
 use Prim.Native.Nat.{ℕ, suc, _+_, _*_, _^_, _≤_, _<_}
 use native.Mathlib.Omega.{arith}
-use mathlib.Core.Path.{_≡_, refl, ap, ap₂, sym, _∙_, subst, fun-ext}
+use mathlib.Core.Path.{_≡_, refl, ap, ap₂, sym, _∙_, subst}
 use mathlib.Core.Bool.{Bool, true, false, _&&_, cond}
 use mathlib.Core.List.{List, [], _∷_, _++_, append-assoc, append-nil}
 use borrow.Author.Tests.{ltb-true, leb-true, lt-ltb, le-leb, le-ltb, lt-leb}
@@ -176,14 +176,6 @@ module _ {A B : Type 0} (p : Ask A) (k : A → Ask B) (s : List ℕ) (at : Place
       go (gotAt a at′) f = (a, at′, f, sym (bind-got p s at k f) ∙ e)
       go (refusedAt n) f = absurd (let d = bind-refused p s at k f in let z : _≡_ {A = ℕ} 0 1 = cc in omega arith)
       go shortAt f = absurd (let d = bind-short p s at k f in let z : _≡_ {A = ℕ} 0 1 = cc in omega arith)
-
--- three in a row are the same either way
-pub bind-assoc : {A B C : Type 0} (p : Ask A) (k : A → Ask B) (g : B → Ask C) → p >>= k >>= g ≡ p >>= (λ a. k a >>= g)
-unfolding _>>=_
-bind-assoc (done a) k g = refl
-bind-assoc (stop n) k g = refl
-bind-assoc (ask q f) k g = ap (ask q) (fun-ext (λ v. bind-assoc (f v) k g))
-bind-assoc (seen f) k g = ap seen (fun-ext (λ l. bind-assoc (f l) k g))
 
 -- a check that holds lets the reader go on where it is; one that does not refuses
 require-is : (b : Bool) (n : ℕ) {s : List ℕ} {at : Place} → In s at → runAt (require b n) s at ≡ cond b (gotAt tt at) (refusedAt n)

@@ -117,11 +117,6 @@ row-append f (x ∷ xs) ys = ap (λ s. f x ++ s) (row-append f xs ys) ∙ sym (a
 
 -- ---- the number that bits spell
 
-pub spelt-append : (acc : ℕ) (s t : List ℕ) → spelt acc (s ++ t) ≡ spelt (spelt acc s) t
-unfolding spelt
-spelt-append acc [] t = refl
-spelt-append acc (b ∷ s) t = spelt-append (acc * 2 + b) s t
-
 pub spelt-bitsOf : (acc w v : ℕ) → spelt acc (bitsOf w v) ≡ acc * 2 ^ w + v % 2 ^ w
 unfolding spelt bitsOf
 spelt-bitsOf acc zero v = simp (mul-one, mod-one, add-zero)
