@@ -1,5 +1,4 @@
--- A whole input, frame by frame, over any reading of one frame: the laws of that reading on which the list of answers
--- stands, the list a step at a time, and that the definition's own reading has these laws. Assumes nothing.
+-- A whole input, frame by frame: the list of answers, one step at a time. Assumes nothing.
 use Prim.Native.Nat.{ℕ, zero, suc, _≤_, _<_}
 use native.Mathlib.Omega.{arith}
 use mathlib.Core.Path.{_≡_, refl, ap, sym, _∙_}
@@ -23,19 +22,19 @@ frame-zero (suc zero) e = absurd (let z : _≡_ {A = ℕ} 0 1 = cc in omega arit
 frame-zero (suc (suc zero)) e = absurd (let z : _≡_ {A = ℕ} 0 1 = cc in omega arith)
 frame-zero (suc (suc (suc n))) e = absurd (let z : _≡_ {A = ℕ} 0 1 = cc in omega arith)
 
--- a verdict, by the number
+-- equal numbers have the same verdict
 pub verdict-is : {n m : ℕ} {k : Verdict} → n ≡ m → verdictOf m ≡ k → verdictOf n ≡ k
 verdict-is e f = ap verdictOf e ∙ f
 
 -- ---- the laws of a reading of one frame
 
--- More bytes never unsay what is decided; an accepted frame's counted bytes are there; and they are one at least.
+-- More bytes never change a decided answer; an accepted frame's consumed bytes are there; and there is at least one.
 pub record Lawful (one : List ℕ → Result) : Type 0 where
   pub extended : (s t : List ℕ) → (verdict (one s) ≡ undecided → ⊥) → one (s ++ t) ≡ one s
   pub there : (s : List ℕ) → verdict (one s) ≡ accept → one s .report .consumed ≤ length s
   pub some : (s : List ℕ) → verdict (one s) ≡ accept → 0 < one s .report .consumed
 
--- ---- the list, a step at a time
+-- ---- the list, one step at a time
 
 module _ {one : List ℕ → Result} (law : Lawful one) where
   abbrev rest : List ℕ → List ℕ
@@ -45,7 +44,7 @@ module _ {one : List ℕ → Result} (law : Lawful one) where
   rest-less : (s : List ℕ) → verdict (one s) ≡ accept → length (rest s) < length s
   rest-less s e = let a = law .there s e in let b = law .some s e in omega (arith, length-drop (one s .report .consumed) s)
 
-  -- how often the list may go on does not matter once it is more often than there are bytes
+  -- the limit on the number of answers does not matter once it is above the number of bytes
   enough : (n m : ℕ) (s : List ℕ) → length s < n → length s < m → answersIn n one s ≡ answersIn m one s
   unfolding answersIn goesOn
   enough zero m s h g = absurd (omega arith)
@@ -58,7 +57,7 @@ module _ {one : List ℕ → Result} (law : Lawful one) where
       go undecided e again = refl
       go refuse e again = refl
 
-  -- the answer to what is there, and after a frame the answers to what follows it
+  -- the first answer and, after a frame, the answers to what follows it
   pub unrolled : (s : List ℕ) → answers one s ≡ one s ∷ goesOn (verdict (one s)) (answers one (rest s))
   unfolding answers answersIn goesOn
   unrolled s = ap (λ (l : List Result). one s ∷ l) (go (verdict (one s)) refl)
@@ -68,14 +67,14 @@ module _ {one : List ℕ → Result} (law : Lawful one) where
       go undecided e = refl
       go refuse e = refl
 
--- ---- the definition's reading has them
+-- ---- the definition's reading obeys these laws
 
 module _ (set : Settings) where
   pub nothing-left : result set [] .report .number ≡ 1
   unfolding result begun opening header codes sync bits _>>=_ runAt inside toAt run follow answer bitsFrom bitsOfBytes resultOf untouched refusal cutShort
   nothing-left = refl
 
-  -- an accepted frame has a byte at least: its counted bytes alone are a frame, and no bytes are none
+  -- An accepted frame has at least one byte: its consumed bytes alone are a frame, and an empty input is none.
   pub some-byte : (s : List ℕ) → result set s .report .number ≡ 0 → 0 < result set s .report .consumed
   some-byte s z = go (result set s .report .consumed) refl
     where

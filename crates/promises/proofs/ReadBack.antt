@@ -1,6 +1,4 @@
--- READ-BACK, of the code: what any outcome of `write_frame` left in the output, read by any outcome of `read_frame` into
--- enough room, is the samples again, whatever bytes follow the frame; and the frame is within the length bound.
--- Assumes nothing.
+-- READ-BACK, for the code: `read_frame` gets the samples back from what `write_frame` wrote. Assumes nothing.
 use Prim.Native.Nat.{ℕ, _≤_}
 use native.Mathlib.Omega.{arith}
 use mathlib.Core.Path.{_≡_, refl, ap, sym, _∙_}
@@ -23,7 +21,7 @@ use Rattle.writer.specs.declared.Answer as written
 use Rattle.writer.specs.Outcomes.{outcome}
 use Rattle.promises.proofs.Outcomes.{ReadFrame, reads, WriteFrame, writes}
 
--- what a frame that was written says of its settings and samples
+-- what a written frame says about its settings, samples and output
 record Wrote (set : FrameSetting) (xs : List ℤ) (out : List ℕ) (n : ℕ) (left : List ℕ) : Type 0 where
   ok : allowed set (length xs) ≡ true
   fit : allFit (set .bits) xs ≡ true
@@ -53,13 +51,15 @@ module _ {set : FrameSetting} {xs : List ℤ} {out : List ℕ} {n : ℕ} {left :
   abbrev w : Wrote set xs out n left
   w = wrote set xs out n left (writes o)
 
-  -- the frame stands first in the output
+  -- the output starts with the frame
   frame-first : take n left ≡ frameBytes set xs
   frame-first = ap (λ m. take m left) (w .long) ∙ ap (take (length (frameBytes set xs))) (w .laid) ∙ take-append-seam (frameBytes set xs) _
 
+  -- the frame is within the length bound
   pub written-within-bound : n ≤ frameBound set
   written-within-bound = omega (arith, w .long, within-bound set xs)
 
+  -- whatever bytes follow the frame, and in any buffer with room for the samples
   pub written-reads-back : (rest : List ℕ) (b : List ℤ) → length xs ≤ length b → {r : Answer} {kept : List ℤ} → ReadFrame (take n left ++ rest) b r kept
       → (r ≡ Answer.Frame (record { consumed = n; first = firstOf set; channels = channelCount (assignment (set .channels)); bits = set .bits; size = set .size }))
       × (kept ≡ xs ++ drop (length xs) b)

@@ -1,5 +1,4 @@
--- THE LAW: what the definition writes, the definition reads back, whatever bytes follow and however large the buffer is.
--- Assumes nothing.
+-- READ-BACK: what the definition writes it reads back, whatever follows and in any buffer with room. Assumes nothing.
 use Prim.Native.Nat.{ℕ, _+_, _*_, _≤_}
 use native.Mathlib.Omega.{arith}
 use mathlib.Core.Path.{_≡_, refl, ap, sym, _∙_}
@@ -53,7 +52,7 @@ module _ (set : FrameSetting) (xs : List ℤ) (rest : List ℕ) (room : ℕ) whe
   abbrev end : Place
   end = record { byte = length (frameBytes set xs); bit = 0 }
 
-  -- bytes whose bits spell the frame, from the first on
+  -- bytes whose bits spell a frame are read as that frame
   run-frame : Spells [] (frame (record { room = room })) (frameBits set xs) written
       → runAt (frame (record { room = room })) (frameBytes set xs ++ rest) (placeOf 0) ≡ gotAt written end
   unfolding toAt

@@ -1,4 +1,4 @@
--- Postconditions of readers: what holds of every value that a reader gets and of every refusal, on any input. Assumes nothing.
+-- Postconditions: what holds of every value that a reader gets and of every refusal, on any input. Assumes nothing.
 use Prim.Native.Nat.{ℕ, zero, suc, _+_, _^_, _<_}
 use mathlib.Core.Path.{_≡_, refl, ap, ap₂, _∙_}
 use mathlib.Core.Bool.{Bool, true, false, cond}

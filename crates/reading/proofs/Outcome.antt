@@ -6,9 +6,9 @@ use denote.Triple.Clauses.{Ended, Lasts, AtExit, atExit}
 use Rattle.reading.proofs.is_inside
 
 -- Rattle derives two things from a function's source: `ended`, its signature with the buffers that it hands back, and
--- `Reads.Learnt`, what its `ensures` says about the arguments, the result and those buffers. Any two outcomes on the same
--- arguments that both meet it are equal, buffers included. The line that states this for a function breaks where its
--- contract is weakened.
+-- `Reads.Learnt`, what its `ensures` says about the arguments, the result and those buffers. Any two outcomes on the
+-- same arguments that both meet it are equal, buffers included. The line that states this for a function breaks where
+-- its contract is weakened.
 abbrev pub OneOutcome : (T : Ended)
     → ((κs : Lfts (T .signature .lifetimes)) → Args (T .signature) κs → Res (T .signature) κs → AtExit T κs → Type 0) → Type 0
 OneOutcome T ensured =

@@ -86,7 +86,7 @@ ask-settled q k s i h ih (found v m) eq e =
     )
 ask-settled q k s i h ih cut eq e = absurd e
 
--- THE LAW: a run ends at or after its start and within the input, and an input that agrees up to there has the same run.
+-- THE LAW: a run ends at or after its start, within the input, and an input that agrees up to there has the same run.
 pub settled : {A : Type 0} (p : Ask A) (s : List ℕ) (i : ℕ) {j : ℕ} → i ≤ length s → Ends (run p s i) j → Settled (λ t. run p t i) i s j
 unfolding run
 settled (done a) s i {j} h e = (omega arith, omega arith, λ s′ q. refl)

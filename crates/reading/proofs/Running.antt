@@ -1,4 +1,4 @@
--- Runs on bytes: places, single questions, sequences, checks and lists, so that no proof above unfolds `run`. Assumes nothing.
+-- Runs on bytes: where they start and end, single questions, sequences, checks and lists. Assumes nothing.
 use Prim.Native.Nat.{ℕ, suc, _+_, _*_, _^_, _≤_, _<_}
 use native.Mathlib.Omega.{arith}
 use mathlib.Core.Path.{_≡_, refl, ap, ap₂, sym, _∙_, subst}

@@ -1,6 +1,6 @@
--- A reader is a tree of questions to the input; here are the trees, and their runs on a list of bits. A reader can only ask
--- a question, look at the bits that it has read, finish, or refuse. So its answer depends on the bits that it has read and
--- on nothing else, whatever the format (proofs/Prefix.antt).
+-- A reader is a tree of questions to the input; here are the trees, and their runs on a list of bits. A reader can only
+-- ask a question, look at the bits that it has read, finish, or refuse. So its answer depends on the bits that it has
+-- read and on nothing else, whatever the format (proofs/Prefix.antt).
 use Prim.Native.Nat.{ℕ, zero, suc, _+_, _*_}
 use mathlib.Core.Bool.{Bool, cond}
 use mathlib.Core.List.{List, [], _∷_, _++_}

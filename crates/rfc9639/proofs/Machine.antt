@@ -44,7 +44,7 @@ shift-shr k (negsuc n) = refl
 pub shifted : {w : Width} {z : ℤ} → SFits w z → (k : ℕ) → toZ w (ofZ w (shrZ (toZ w (ofZ w z)) (2 ^ k))) ≡ shiftDown k z
 shifted {w} {z} f k = rw (toZ-ofZ f, shift-shr k z) (toZ-ofZ (to-sfits (shiftDown-fits (of-sfits f) k)))
 
--- Sign extension by shifts, up by k and down by k: the bits above the low w are lost, and the sign bit takes their places.
+-- Sign extension by two shifts, up by k and down by k: the bits above the low w become copies of the sign bit.
 module _ (w k : ℕ) where
   up : (b : ℕ) → (b * 2 ^ k) % 2 ^ (w + k) ≡ b % 2 ^ w * 2 ^ k
   up b =

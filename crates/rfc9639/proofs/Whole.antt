@@ -1,4 +1,4 @@
--- The frame's bits: what the writer writes is bits, in whole bytes, and the frame's bytes have these bits. Assumes nothing.
+-- The frame's bits: all that the writer writes is bits, and the frame's bytes have just these bits. Assumes nothing.
 use Prim.Native.Nat.{ℕ, _+_, _-_, _*_, _/_, _^_}
 use native.Mathlib.Omega.{arith}
 use mathlib.Core.Path.{_≡_}

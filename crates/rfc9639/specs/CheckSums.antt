@@ -1,5 +1,5 @@
--- The check sums (RFC 9639 sections 9.1.8 and 9.3) are CRCs: the remainder of the bits, most significant first and followed
--- by w zeros, divided by a polynomial of degree w over the field of two elements. Both start from zero.
+-- The check sums (RFC 9639 sections 9.1.8 and 9.3) are CRCs: the remainder of the bits, most significant first and
+-- followed by w zeros, divided by a polynomial of degree w over the field of two elements. Both start from zero.
 use Prim.Native.Nat.{ℕ, _+_, _-_, _*_, _/_, _%_, _^_}
 use mathlib.Core.List.{List, [], _∷_}
 use lib.Bits.{bitXor}

@@ -1,5 +1,5 @@
--- A channel as the writer stores it (RFC 9639 sections 9.2.1 to 9.2.7): the candidates, the bits of each, and which of them
--- is taken.
+-- A channel as the writer stores it (RFC 9639 sections 9.2.1 to 9.2.7): the candidates, the bits of each, and which of
+-- them is taken.
 use Prim.Native.Nat.{ℕ, zero, suc, _+_, _*_, _/_, _^_, min}
 use mathlib.Core.Bool.{Bool, true, false, _&&_}
 use mathlib.Core.List.{List, [], _∷_, _++_, map, reverse}
@@ -81,8 +81,8 @@ unfoldable pub fixedOnes : List ℕ → List Candidate
 fixedOnes [] = []
 fixedOnes (order ∷ orders) = map (Fixed order) (counting 0 15) ++ fixedOnes orders
 
--- The candidates of a channel: constant where all samples are equal, verbatim, and the fixed predictors of order 0 to 4 with
--- an order below the block size.
+-- The candidates of a channel: constant where all samples are equal, verbatim, and the fixed predictors of order 0 to 4
+-- with an order below the block size.
 unfoldable pub candidates : List ℤ → List Candidate
 candidates xs = (if uniform xs then Constant ∷ [] else []) ++ Verbatim ∷ fixedOnes (counting 0 (min 5 (length xs)))
 

@@ -1,12 +1,12 @@
--- A whole input, frame by frame: the list of answers, up to and including the refusal that ends it. The definitions hold for
--- any function `one` that reads one frame, so no setting of the reader appears here.
+-- A whole input, frame by frame: the list of answers, up to and including the refusal that ends it. The definitions
+-- hold for any function `one` that reads one frame, so no setting of the reader appears here.
 use Prim.Native.Nat.{ℕ, zero, suc}
 use mathlib.Core.List.{List, [], _∷_}
 use lib.ListN.{length, drop}
 use Rattle.rfc9639.specs.Read.{Result}
 
--- What an answer is, by its number: 0 is a frame, 1 and 2 are answers that more bytes may change, all others are final
--- refusals.
+-- What an answer is, by its number: 0 is a frame; 1 and 2 may change with more bytes; more bytes never change the
+-- others.
 pub data Verdict : Type 0 where
   accept undecided refuse : Verdict
 

@@ -1,5 +1,5 @@
--- Integers of w bits in two's complement. Prediction and stereo decoding compute in ℤ, and `wrapped` is where a result is
--- cut to a width. Only a residual's folded form is cut elsewhere (`folded`, Residual.antt).
+-- Integers of w bits in two's complement. Prediction and stereo decoding compute in ℤ, and `wrapped` is where a result
+-- is cut to a width. Only a residual's folded form is cut elsewhere (`folded`, Residual.antt).
 use Prim.Native.Nat.{ℕ, suc, _-_, _*_, _/_, _%_, _^_}
 use lib.Dec.{ltb}
 use lib.IntN.{ℤ, pos, negsuc, _*ℤ_}

@@ -1,5 +1,5 @@
--- THE DEFINITION of a FLAC frame and of the frame that the writer writes: RFC 9639, and document 01 where the two differ.
--- Each reader asks for the fields in the order of the format, and checks a field as soon as it is read.
+-- THE DEFINITION of a FLAC frame, and of the frame that the writer writes: RFC 9639, and document 01 where the two
+-- differ. Each reader asks for its fields in the order of the format.
 pub mod CheckSums
 pub mod Integers
 pub mod Number

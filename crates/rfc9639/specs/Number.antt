@@ -1,5 +1,5 @@
--- The coded number (RFC 9639 section 9.1.5), one to seven bytes in an extended UTF-8. Forms longer than needed are accepted.
--- A number has at most 36 bits, so none starts with the byte FF.
+-- The coded number (RFC 9639 section 9.1.5), one to seven bytes in an extended UTF-8. Forms longer than needed are
+-- accepted. A number has at most 36 bits, so none starts with the byte FF.
 use Prim.Native.Nat.{ℕ, zero, suc, _+_, _*_, _/_, _%_}
 use lib.Dec.{ltb, eqb}
 use Rattle.reading.specs.Reading.{Ask, done, stop, _>>=_, _>>_, bits, require, if_then_else_}

@@ -1,5 +1,5 @@
--- The whole answer: what the reader reports for some bytes, and what the lent samples hold afterwards. A refusal has document
--- 01's number; crate `error` names the causes.
+-- The whole answer: what the reader reports for some bytes, and what the lent samples hold afterwards. A refusal has
+-- document 01's number; crate `error` names the causes.
 use Prim.Native.Nat.{ℕ}
 use mathlib.Core.List.{List, [], _∷_, _++_}
 use lib.IntN.{ℤ, pos}

@@ -1,5 +1,5 @@
--- Left and right from a side channel (RFC 9639 section 4.2), in 32 bits that wrap, as claxon has them. The two channels come
--- one after the other, n samples each.
+-- Left and right from a side channel (RFC 9639 section 4.2), in 32 bits that wrap, as claxon has them. The two channels
+-- come one after the other, n samples each.
 use Prim.Native.Nat.{ℕ}
 use mathlib.Core.List.{List, [], _∷_, _++_}
 use lib.IntN.{ℤ, pos, _+ℤ_, _-ℤ_, _*ℤ_}
@@ -24,7 +24,7 @@ leftOfMid mid side = shiftDown 1 (wrapped 32 (doubled mid side +ℤ side))
 unfoldable pub rightOfMid : ℤ → ℤ → ℤ
 rightOfMid mid side = shiftDown 1 (wrapped 32 (doubled mid side -ℤ side))
 
--- a function of each left sample and the right one at the same index
+-- f of the two samples at each index of two channels
 unfoldable pub pairwise : (ℤ → ℤ → ℤ) → List ℤ → List ℤ → List ℤ
 pairwise f [] ys = []
 pairwise f (x ∷ xs) [] = []

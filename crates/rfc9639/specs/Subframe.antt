@@ -29,7 +29,7 @@ wastedBits = do
   flag ← bits 1
   if eqb flag 0 then done 0 else (do z ← zeros; done (z + 1))
 
--- the wasted bits, which must be fewer than the bits of the channel's samples
+-- the wasted bits: at most 31, and fewer than the bits of the channel's samples
 unfoldable pub wastedJudged : ℕ → Ask ℕ
 wastedJudged width = do
   wasted ← wastedBits
@@ -64,8 +64,8 @@ fixed order w n = do
   res ← residual order n
   done (predict (fixedCoefficients order) 0 warm res)
 
--- Section 9.2.6: the coefficients' precision in bits, stored less one, where 15 is forbidden; and the shift. A negative shift
--- is not supported.
+-- Section 9.2.6: the coefficients' precision in bits, stored less one, where 15 is forbidden; and the shift. A negative
+-- shift is not supported.
 unfoldable pub quantization : Ask (ℕ × ℕ)
 quantization = do
   precision ← bits 4
@@ -96,8 +96,8 @@ samples Verbatim w n = many n (sample w)
 samples (Fixed k) w n = fixed k w n
 samples (Lpc k) w n = lpc k w n
 
--- A channel of n samples, after its header. Wasted bits are not stored: the samples have fewer bits by their number, and get
--- them back as low zeros.
+-- A channel of n samples, after its header. Wasted bits are not stored: the samples have fewer bits by their number,
+-- and get them back as low zeros.
 unfoldable pub subframeBehind : ℕ → ℕ → SubframeHeader → Ask (List ℤ)
 subframeBehind n width h = do
   require (leb (orderOf (h .kind)) n) 9
