@@ -1,4 +1,4 @@
--- Frames: what holds of every frame that the definition reads, and the refusals after the header. Assumes nothing.
+-- A frame's samples: N of them, each of 32 bits; and the refusals after the header. Assumes nothing.
 use Prim.Native.Nat.{ℕ, zero, suc, _+_, _-_, _*_, _/_, _%_, _^_, _≤_}
 use native.Mathlib.Nat.{div-add-mod', add-comm, mul-comm, zero-mul, suc-mul}
 use native.Mathlib.Omega.{arith}

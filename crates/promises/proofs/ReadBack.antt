@@ -14,7 +14,7 @@ use Rattle.rfc9639.specs.Read.{Outcome, read}
 use Rattle.rfc9639.specs.Write.{frameBytes, frameBound, allowed, allFit, Written, unwritten, write}
 use Rattle.rfc9639.proofs.Bound.{within-bound}
 use Rattle.readback.specs.First.{firstOf}
-use Rattle.readback.proofs.ReadBack.{read-back}
+use Rattle.readback.proofs.ReadBack.{writtenReport, read-back}
 use Rattle.frame.specs.declared.Answer.{Answer}
 use Rattle.frame.proofs.Outcome.{report-tells}
 use Rattle.writer.specs.declared.Answer as written
@@ -66,13 +66,6 @@ module _ {set : FrameSetting} {xs : List ℤ} {out : List ℕ} {n : ℕ} {left :
   written-reads-back rest b room {r} p =
       let back =
       ap (λ (x : List ℕ). read (x ++ rest) b) frame-first ∙ read-back set xs (w .ok) (w .fit) rest b room in (
-        report-tells r _ (reads p .report ∙ ap (λ (x : Outcome). x .report) back ∙ ap (λ m. record {
-          number = 0;
-          consumed = m;
-          first = firstOf set;
-          channels = channelCount (assignment (set .channels));
-          bits = set .bits;
-          size = set .size;
-        }) (sym (w .long))),
+        report-tells r _ (reads p .report ∙ ap (λ (x : Outcome). x .report) back ∙ ap (λ m. writtenReport set m (firstOf set)) (sym (w .long))),
         reads p .samples ∙ ap (λ (x : Outcome). x .buffer) back,
       )

@@ -62,8 +62,9 @@ module _ (set : FrameSetting) (xs : List ℤ) (rest : List ℕ) (room : ℕ) whe
       ∙ ap toAt (s .reads (bitsOfBytes rest))
       ∙ ap (gotAt written) (sym (place-is (length (frameBytes set xs)) 0 (0 + length (frameBits set xs)) (omega arith) (omega (arith, length-frameBits set xs))))
 
-abbrev reported : FrameSetting → ℕ → ℕ → Report
-reported set consumed first = record {
+-- the report on a written frame
+abbrev pub writtenReport : FrameSetting → ℕ → ℕ → Report
+writtenReport set consumed first = record {
   number = 0;
   consumed = consumed;
   first = first;
@@ -91,4 +92,4 @@ read-back set xs ok fit rest buffer room =
     let spells = spells-frame set xs (allowed-facts set (length xs) ok) (all-fit-facts (set .bits) xs fit) (length buffer) room in
     ap (λ r. record { report = r .report; buffer = r .front ++ drop (length (r .front)) buffer })
     (frame-result (record { room = length buffer }) (frameBytes set xs ++ rest) (run-frame set xs rest (length buffer) spells))
-    ∙ ap (λ n. record { report = reported set (length (frameBytes set xs)) n; buffer = xs ++ drop (length xs) buffer }) (first-is set)
+    ∙ ap (λ n. record { report = writtenReport set (length (frameBytes set xs)) n; buffer = xs ++ drop (length xs) buffer }) (first-is set)
