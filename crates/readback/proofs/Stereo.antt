@@ -53,7 +53,7 @@ odd-difference a b = low-add-of 1 a a (negℤ b) b refl (odd-neg b)
 -- ---- a pair of samples of w bits
 
 module _ {w : ℕ} (h : 1 ≤ w) (most : w ≤ 24) {l r : ℤ} (f : Fits w l) (g : Fits w r) where
-  -- what fits 32 bits is not changed by them
+  -- what fits 32 bits wraps to itself
   in32 : {v : ℕ} {z : ℤ} → v ≤ 32 → Fits v z → wrapped 32 z ≡ z
   in32 {v} {z} k e = wrapped-same 32 z (omega arith) (fits-mono k e)
 

@@ -61,7 +61,7 @@ module _ {A : Type 0} (count : A → ℕ) where
       subst (Fewest count (fewestOf count (cond (ltb (count c) (count best)) c best) cs)) (append-assoc seen (c ∷ []) cs)
       (fewestOf-is (cond (ltb (count c) (count best)) c best) (seen ++ (c ∷ [])) cs (extended best c seen f))
 
-  -- a choice among two lists: first the one, then the other
+  -- to choose from two lists is to choose from the first, then from the second
   pub fewestOf-append : (best : A) (cs ds : List A) → fewestOf count best (cs ++ ds) ≡ fewestOf count (fewestOf count best cs) ds
   unfolding fewestOf
   fewestOf-append best [] ds = refl
@@ -80,7 +80,7 @@ fewest-is count c cs = fewestOf-is count c (c ∷ []) cs (record { before = []; 
 
 -- ---- the candidates of a channel
 
--- when a candidate is open to a channel
+-- what makes a candidate one of the channel's
 pub data Open (xs : List ℤ) : Candidate → Type 0 where
   constant : uniform xs ≡ true → Open xs Constant
   verbatim : Open xs Verbatim
@@ -117,7 +117,7 @@ module _ (xs : List ℤ) where
       go true e = (constant e, tt)
       go false e = tt
 
-  -- the chosen candidate is open
+  -- what is chosen is a candidate of the channel
   pub chosen-open : (w : ℕ) → Open xs (chosen w xs)
   chosen-open w =
       let f = chosen-fewest w xs in

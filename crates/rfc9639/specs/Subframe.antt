@@ -96,8 +96,8 @@ samples Verbatim w n = many n (sample w)
 samples (Fixed k) w n = fixed k w n
 samples (Lpc k) w n = lpc k w n
 
--- A channel of n samples, after its header. Wasted bits are not stored: the samples have fewer bits by their number,
--- and get them back as low zeros.
+-- A channel of n samples, after its header. Samples are stored without their wasted bits, and get them back as zeros at
+-- the low end.
 unfoldable pub subframeBehind : ℕ → ℕ → SubframeHeader → Ask (List ℤ)
 subframeBehind n width h = do
   require (leb (orderOf (h .kind)) n) 9
