@@ -1,5 +1,4 @@
--- What the definition's answer says of the two runs that it is made of, on an input, on longer ones and on beginnings of
--- it, and with more room. Demand3.antt states what follows for `read`. Assumes nothing.
+-- The definition's result by its two runs: on longer and shorter inputs, and with more room. Assumes nothing.
 use Prim.Native.Nat.{ℕ, zero, suc, _*_, _≤_, _<_}
 use native.Mathlib.Omega.{arith}
 use native.Mathlib.Decide.{decLe}
@@ -28,7 +27,7 @@ got-short a p e = let z : _≡_ {A = ℕ} 0 1 = cc in omega arith
 refused-short : {A : Type 0} (n : ℕ) → _≡_ {A = At A} (refusedAt n) shortAt → ⊥
 refused-short n e = let z : _≡_ {A = ℕ} 0 1 = cc in omega arith
 
--- nothing left or cut short: 1 or 2
+-- `cutShort` is 1 or 2
 pub cut-number : (s : List ℕ) → (cutShort s ≡ 0 → ⊥) × (cutShort s ≤ 2)
 unfolding cutShort
 cut-number [] = (λ e. omega arith, omega arith)
@@ -45,7 +44,7 @@ cut-two zero s h l = absurd (omega arith)
 cut-two (suc m) [] h l = absurd (omega arith)
 cut-two (suc m) (b ∷ s) h l = refl
 
--- ---- what an answer says of the two runs
+-- ---- what a result says about the two runs
 
 module _ (set : Settings) (s : List ℕ) where
   -- a frame was read
@@ -65,7 +64,7 @@ module _ (set : Settings) (s : List ℕ) where
       (λ h p o. subst (Meets Early (Open set)) o (holds-at Early (Open set) s (placeOf 0) (opening-holds set)) .sound .mono)
       e
 
-  -- what reading a frame comes to
+  -- the result where a frame was read
   pub frame-result : {f : Frame} {end : Place} → runAt (frame set) s (placeOf 0) ≡ gotAt f end → result set s ≡ record { report = accepted (f .header) end; front = f .samples }
   unfolding result resultOf finished
   frame-result e = ap₂ (resultOf s) (had-begun e .1 .1) e
@@ -81,7 +80,7 @@ module _ (set : Settings) (s : List ℕ) where
     is = frame-result e;
   }
 
-  -- number 0 is a frame that was read, and nothing else is
+  -- number 0 means that a frame was read
   pub zero-read : result set s .report .number ≡ 0 → Read (result set s)
   unfolding result resultOf finished untouched zeroed refusal cutShort
   zero-read z = go (runAt (begun set) s (placeOf 0)) refl (runAt (frame set) s (placeOf 0)) refl z
@@ -106,7 +105,7 @@ module _ (set : Settings) (s : List ℕ) where
       go (refusedAt n) e y g = omega (arith, subst (Meets Early (Open set)) e (holds-at Early (Open set) s (placeOf 0) (begun-holds set)))
       go shortAt e y g = omega (arith, cut-number s .1)
 
-  -- what is written has room
+  -- the samples that are written have room
   pub front-room : length (result set s .front) ≤ set .room
   unfolding result resultOf finished untouched zeroed
   front-room = go (runAt (begun set) s (placeOf 0)) refl (runAt (frame set) s (placeOf 0)) refl
@@ -148,7 +147,7 @@ module _ (set : Settings) (s : List ℕ) (z : result set s .report .number ≡ 0
   abbrev r : Read set s (result set s)
   r = zero-read set s z
 
-  -- its counted bytes
+  -- its consumed bytes end where the run ended
   consumed-is : result set s .report .consumed ≡ r .end .byte
   unfolding accepted
   consumed-is = ap (λ q. q .report .consumed) (r .is)

@@ -1,5 +1,4 @@
--- The definition's whole answer by cases: what it comes to, by the runs of the header, of the first subframe's first bit and
--- of the body. The frame reader's code goes by these cases. Assumes nothing.
+-- The definition's result by cases: by the header, the first subframe's first bit and the body. Assumes nothing.
 use Prim.Native.Nat.{ℕ, _≤_, _<_}
 use mathlib.Core.Path.{_≡_, ap, ap₂, _∙_}
 use mathlib.Core.List.{List}
@@ -15,7 +14,7 @@ use Rattle.rfc9639.specs.Frame.{Settings, opening, body, frame}
 use Rattle.rfc9639.specs.Read.{accepted, untouched, zeroed, cutShort, begun, finished, resultOf, result}
 
 module _ (set : Settings) (s : List ℕ) where
-  -- a frame that did not open
+  -- a header that was refused
   shut : (n : ℕ) → runAt (opening set) s (placeOf 0) ≡ refusedAt n → result set s ≡ untouched n
   unfolding result resultOf begun
   shut n e = ap (λ x. resultOf s x (runAt (frame set) s (placeOf 0))) (bind-refused (opening set) s (placeOf 0) _ e)

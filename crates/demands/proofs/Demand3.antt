@@ -1,7 +1,4 @@
--- DEMAND 3, of the definition's `read`: more bytes never unsay an answer; an accepted frame's counted bytes are just
--- those that it needs; more room changes nothing but a lack of it; what the buffer held sways nothing. All of it follows
--- from the prefix rules, which hold of every reader (reading, proofs/Prefix), and from no detail of the format.
--- Assumes nothing.
+-- DEMAND 3, for the definition's `read`: what more bytes, more room and other buffers can change. Assumes nothing.
 use Prim.Native.Nat.{ℕ, _*_, _≤_, _<_}
 use native.Mathlib.Omega.{arith}
 use mathlib.Core.Logic.{_≢_}
@@ -20,7 +17,10 @@ use Rattle.demands.proofs.Samples.{Sample, Whole, frame-holds}
 use Rattle.demands.proofs.Answers
 use Rattle.demands.proofs.FrameByFrame
 
--- what a result comes to in a buffer
+-- All of it follows from the prefix rules, which hold for every reader (crate `reading`), and from no detail of the
+-- format.
+
+-- a result, written into a buffer
 pub filled : List ℤ → Result → Outcome
 filled b r = record { report = r .report; buffer = r .front ++ drop (length (r .front)) b }
 
@@ -28,14 +28,13 @@ pub read-is : (s : List ℕ) (b : List ℤ) → read s b ≡ filled b (result (r
 unfolding read filled
 read-is s b = refl
 
--- ---- 1. More bytes never unsay an answer: one other than 1 and 2 stays, in number, reports and buffer, whatever follows.
+-- ---- 1. More bytes never change an answer other than 1 and 2: report and buffer stay the same, whatever follows.
 
 pub never-unsaid : (s t : List ℕ) (b : List ℤ) → read s b .report .number ≢ 1 → read s b .report .number ≢ 2 → read (s ++ t) b ≡ read s b
 unfolding read
 never-unsaid s t b one two = read-is (s ++ t) b ∙ ap (filled b) (Answers.extended (record { room = length b }) s t one two) ∙ sym (read-is s b)
 
--- ---- 2. An accepted frame: its counted bytes alone get its answer and buffer; each shorter beginning of them gets 2, the
--- empty one 1.
+-- ---- 2. An accepted frame: its consumed bytes alone give its answer and buffer; fewer give 2, and none give 1.
 
 module _ (s : List ℕ) (b : List ℤ) (frame : read s b .report .number ≡ 0) where
   pub counted-there : read s b .report .consumed ≤ length s
@@ -54,13 +53,12 @@ pub nothing-left : (b : List ℤ) → read [] b .report .number ≡ 1
 unfolding read
 nothing-left b = FrameByFrame.nothing-left (record { room = length b })
 
--- so an accepted frame has a byte at least
+-- so an accepted frame has at least one byte
 pub counted-some : (s : List ℕ) (b : List ℤ) → read s b .report .number ≡ 0 → 0 < read s b .report .consumed
 unfolding read
 counted-some s b z = FrameByFrame.some-byte (record { room = length b }) s z
 
--- ---- 3. More room changes no answer but 7: number, reports and samples are the same, and what the buffer has more is
--- untouched.
+-- ---- 3. More room changes no answer but 7: report and samples are the same, and the added room is untouched.
 
 pub more-room : (s : List ℕ) (b more : List ℤ) → read s b .report .number ≢ 7
     → read s (b ++ more) ≡ record { report = read s b .report; buffer = read s b .buffer ++ more }
@@ -72,13 +70,13 @@ more-room s b more lacks =
     ∙ ap (λ (l : List ℤ). record { report = result set s .report; buffer = l })
     (ap (λ (l : List ℤ). front ++ l) (drop-append-le (length front) b more (Answers.front-room set s)) ∙ sym (append-assoc front (drop (length front) b) more))
 
--- ---- 4. What the buffer held sways nothing but the places that stay untouched.
+-- ---- 4. What the buffer held before does not affect the answer, and remains only where nothing is written.
 
--- how many places are written, by the bytes and the room
+-- how many samples are written, by the bytes and the room alone
 pub written : List ℕ → ℕ → ℕ
 written s room = length (result (record { room = room }) s .front)
 
--- they are places of the buffer
+-- they are within the buffer
 pub written-room : (s : List ℕ) (room : ℕ) → written s room ≤ room
 unfolding written
 written-room s room = Answers.front-room (record { room = room }) s
@@ -101,8 +99,8 @@ module _ (s : List ℕ) (b b′ : List ℤ) (e : length b ≡ length b′) where
       written-first s b ∙ ap (λ n. result (record { room = n }) s .front) e ∙ sym (written-first s b′)
       ∙ ap (λ n. take (written s n) (read s b′ .buffer)) (sym e)
 
--- ---- What is handed back besides: one of document 01's numbers; as many places as were lent; of an accepted frame, the
--- first N places, channels times block size, each a number of 32 bits.
+-- ---- Besides: the number is one of document 01's; the buffer keeps its length; an accepted frame writes N samples,
+-- channels times block size, each of 32 bits.
 
 pub number-listed : (s : List ℕ) (b : List ℤ) → read s b .report .number ≤ 10
 unfolding read

@@ -1,4 +1,4 @@
--- What holds of every header and frame that the definition reads, and by which numbers it refuses. Assumes nothing.
+-- Headers: what holds of every header that the definition reads, and which refusals it has. Assumes nothing.
 use Prim.Native.Nat.{ℕ, zero, suc, _+_, _*_, _%_, _^_, _≤_, _<_}
 use native.Mathlib.Nat.{pow-suc, mul-assoc, mul-comm, mul-le-mul, lt-of-lt-of-le, lt-of-le-of-lt, mul-le-mul-right, mul-one}
 use native.Mathlib.Omega.{arith}
@@ -20,7 +20,7 @@ use Rattle.rfc9639.proofs.Listing.{channels-between}
 abbrev pub Listed : ℕ → Type 0
 Listed n = (3 ≤ n) × (n ≤ 10)
 
--- those of a header and of what is judged right after it
+-- those of the header and of the checks right after it
 abbrev pub Early : ℕ → Type 0
 Early n = (3 ≤ n) × (n ≤ 8)
 
@@ -103,7 +103,7 @@ or-false : (a b : Bool) → (a || b) ≡ true → a ≡ false → b ≡ true
 or-false true b e f = absurd (let z : _≡_ {A = ℕ} 0 1 = cc in omega arith)
 or-false false b e f = e
 
--- a first sample: a frame number below 2 ^ 31 times the size, or a number below 2 ^ 36
+-- a first sample: a frame number below 2 ^ 31 times the block size, or a sample number below 2 ^ 36
 first-below : (blocking n : ℕ) (h : FrameHeader) → h .time ≡ timeOf blocking n → blocking < 2 → h .size ≤ 65535 → n < 2 ^ 36
     → (eqb blocking 1 || leb n 2147483647) ≡ true → firstSample h < 2 ^ 47
 unfolding firstSample timeOf
@@ -157,7 +157,7 @@ codes-holds =
     (λ c small. holds-bind _ fourth-holds
     (λ d k. value (record { blocking = two; size = small; mono = k .0; channels = k .1; bits = k .2 }))))
 
--- what makes a header's first sample small: the size is judged elsewhere
+-- a block time that keeps the first sample below 2 ^ 47 in any header whose block size is in range
 Timely : BlockTime → Type 0
 Timely time = (h : FrameHeader) → h .time ≡ time → h .size ≤ 65535 → firstSample h < 2 ^ 47
 

@@ -1,4 +1,4 @@
--- What the definition of a frame guarantees.
+-- What the definition of a frame guarantees by itself.
 pub mod Frames
 pub mod Runs
 pub mod Samples

@@ -1,5 +1,4 @@
--- How the runs of a frame's readers hang together: a frame ends at the start of a byte; one that was read had begun; more
--- room changes a run only where there was none. Assumes nothing.
+-- Runs of a frame: where it ends, that it had begun where it was read, and with more room. Assumes nothing.
 use Prim.Native.Nat.{ℕ, zero, suc, _-_, _%_, _≤_}
 use native.Mathlib.Nat.{le-trans}
 use native.Mathlib.Omega.{arith}
@@ -57,7 +56,7 @@ module _ (h : FrameHeader) (s : List ℕ) (at : Place) {xs : List ℤ} {end : Pl
       let same : b .1 ≡ end = cc in
       ap (λ p. p .bit) (sym same) ∙ footer-aligned s (a .1) a-in (b .2)
 
--- ---- its first question is the first bit of the first subframe
+-- ---- the body's first question is the first bit of the first subframe
 
 first-bit : (c : ChannelAssignment) (b n : ℕ) (k : List ℤ → Ask (List ℤ)) → 1 ≤ channelCount c
     → (rest : ℕ → Ask (List ℤ)) × (each (subframe n) (widths c b) >>= k ≡ bits 1 >>= rest)
@@ -104,7 +103,7 @@ module _ (room room′ : ℕ) (more : room ≤ room′) (s : List ℕ) (at : Pla
   abbrev large : Settings
   large = record { room = room′ }
 
-  -- where the first room did not lack, the header passes alike
+  -- where the smaller room is enough, the larger gives the same header
   pub opening-more : (runAt (opening small) s at ≡ refusedAt 7 → ⊥) → runAt (opening large) s at ≡ runAt (opening small) s at
   unfolding opening andThen
   opening-more lacks = go (runAt header s at) refl

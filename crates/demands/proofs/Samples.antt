@@ -1,4 +1,4 @@
--- A frame's samples number N, and each fits 32 bits; what stands first in the buffer afterwards has room. Assumes nothing.
+-- A frame's samples: N of them, each of 32 bits; and the refusals after the header. Assumes nothing.
 use Prim.Native.Nat.{ℕ, zero, suc, _+_, _-_, _*_, _/_, _%_, _^_, _≤_}
 use native.Mathlib.Nat.{div-add-mod', add-comm, mul-comm, zero-mul, suc-mul}
 use native.Mathlib.Omega.{arith}
@@ -27,15 +27,15 @@ use Rattle.rfc9639.specs.Read.{begun}
 use Rattle.rfc9639.proofs.Widths.{Fits, wrapped-fits, shiftDown-fits, shiftUp-fits}
 use Rattle.demands.proofs.Frames.{Listed, Early, Late, forbidden, not-done, bad-shape, frame-sum, early-listed, late-listed, Sound, header-holds}
 
--- a number of 32 bits
+-- a signed number of 32 bits
 abbrev pub Sample : ℤ → Type 0
 Sample z = Fits 32 z
 
--- nothing is said of a value
+-- nothing is said about a value
 abbrev Some : {A : Type 0} → A → Type 0
 Some a = Unit {0}
 
--- this many, and nothing of each
+-- this many, and nothing is said about each
 abbrev Count : {A : Type 0} → ℕ → List A → Type 0
 Count n xs = length xs ≡ n
 
@@ -64,7 +64,7 @@ total-replicate : (n size : ℕ) → total (λ x. x) (replicate n size) ≡ n * 
 total-replicate zero size = sym (zero-mul size)
 total-replicate (suc n) size = ap (λ k. size + k) (total-replicate n size) ∙ sym (suc-mul n size ∙ add-comm (n * size) size)
 
--- 2 ^ order partitions of one size make the block
+-- the residuals of all partitions are those of the block without its warm-up
 sizes : (order n warm : ℕ) → n % 2 ^ order ≡ 0 → warm ≤ n / 2 ^ order → total (λ x. x) (partitionSizes order (n / 2 ^ order) warm) ≡ n - warm
 unfolding partitionSizes
 sizes order n warm e h =
@@ -149,7 +149,7 @@ subframe-header-holds width =
     (λ kind _. holds-bind _ (holds-bind {P = Some} _ wasted-holds (λ wasted _. holds-bind _ (holds-require _ 9 bad-shape) (λ _ _. value tt)))
     (λ wasted _. value tt)))))
 
--- every sample went through 32 bits
+-- every sample is cut to 32 bits
 shifted : (k n : ℕ) (xs : List ℤ) → length xs ≡ n → Sized n Sample (map (shiftUp k) xs)
 shifted k n xs e = record { count = length-map xs (shiftUp k) ∙ e; every = go xs }
   where
@@ -241,7 +241,7 @@ body-holds h =
     (λ _ _. value
     (joined-sized (h .channels) (h .size) xs (record { count = s .count ∙ total-widths (h .channels) (h .bits) (h .size); every = s .every }))))
 
--- a header whose frame can be read into the room
+-- a header whose frame fits the room
 pub record Open (set : Settings) (h : FrameHeader) : Type 0 where
   pub sound : Sound h
   pub depth : 1 ≤ h .bits

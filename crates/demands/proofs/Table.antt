@@ -1,12 +1,10 @@
--- DOCUMENT 01'S TABLE, for every input and buffer: what the samples buffer holds after each answer. 1, 3, 5, 6 and 7 leave it
--- as it was; 10 leaves the first N zero; 2, 4, 8 and 9 one or the other, by whether the first subframe's first bit was read.
--- N is the header's channels times its block size; what stands after the first N is never touched. Assumes nothing.
+-- DOCUMENT 01'S TABLE: what the samples buffer holds after each refusal, for every input and buffer. Assumes nothing.
 use Prim.Native.Nat.{ℕ}
 use native.Mathlib.Omega.{arith}
 use mathlib.Core.Logic.{_≢_, _⊎_, inl, inr}
 use mathlib.Core.Bool.{Bool, true, false, _||_}
 use mathlib.Core.Path.{_≡_, refl, ap, ap₂, sym, _∙_, subst}
-use mathlib.Core.List.{List, [], _∷_, _++_}
+use mathlib.Core.List.{List, _++_}
 use lib.Dec.{eqb}
 use lib.IntN.{ℤ, pos}
 use lib.ListN.{length, drop, replicate, length-replicate}
@@ -18,16 +16,20 @@ use Rattle.reading.proofs.Holding.{Meets, holds-at, Sized}
 use Rattle.rfc9639.specs.declared.FrameHeader.{FrameHeader}
 use Rattle.rfc9639.specs.Header.{sampleCount}
 use Rattle.rfc9639.specs.Frame.{Settings, opening, body, Frame, frame}
-use Rattle.rfc9639.specs.Read.{refusal, accepted, Result, untouched, zeroed, cutShort, begun, finished, resultOf, result, read}
+use Rattle.rfc9639.specs.Read.{refusal, accepted, Result, untouched, zeroed, begun, finished, resultOf, result, read}
 use Rattle.demands.proofs.Frames.{Early, Late, forbidden, not-done, bad-shape, frame-sum}
 use Rattle.demands.proofs.Answers.{cut-number}
 use Rattle.demands.proofs.Samples.{Open, begun-holds, body-holds, Sample}
 
--- the first N of a buffer zero, the others as they were
+-- Refusals 1, 3, 5, 6 and 7 leave the buffer as it was; 10 leaves its first N samples zero; 2, 4, 8 and 9 do the one or
+-- the other, by whether the first subframe's first bit was read. N is the header's channels times its block size. The
+-- samples after the first N are never touched.
+
+-- the buffer with its first N samples zero
 abbrev pub cleared : FrameHeader → List ℤ → List ℤ
 cleared h b = replicate (sampleCount h) (pos 0) ++ drop (sampleCount h) b
 
--- whether a number is one of the late ones, computed
+-- `Late` as a test
 abbrev late : ℕ → Bool
 late n = eqb n 4 || (eqb n 8 || (eqb n 9 || eqb n 10))
 
@@ -41,7 +43,7 @@ module _ (s : List ℕ) (b : List ℤ) where
   abbrev set : Settings
   set = record { room = length b }
 
-  -- the first bit of the first subframe was read, after this header
+  -- this header was read, and then the first bit of the first subframe
   abbrev pub Begun : FrameHeader → Type 0
   Begun h = (at : Place) × (runAt (begun set) s (placeOf 0) ≡ gotAt h at)
 
@@ -57,10 +59,7 @@ module _ (s : List ℕ) (b : List ℤ) where
 
   -- ---- a frame that has begun
 
-  begun-one : {h g : FrameHeader} → Begun h → Begun g → h ≡ g
-  begun-one x y = let e = sym (x .1) ∙ y .1 in cc
-
-  -- what stops a frame that has begun is a refusal of its subframes or its footer
+  -- once a frame has begun, only its subframes or its footer can refuse it
   begun-late : {h : FrameHeader} {at : Place} {n : ℕ} → runAt (begun set) s (placeOf 0) ≡ gotAt h at → runAt (frame set) s (placeOf 0) ≡ refusedAt n → Late n
   unfolding begun frame
   begun-late {h} {at} {n} e f =
@@ -79,12 +78,12 @@ module _ (s : List ℕ) (b : List ℤ) where
           subst Late same (subst (Meets Late (Sized (sampleCount g) Sample)) e (holds-at Late (Sized (sampleCount g) Sample) s p (body-holds g)))
       go g p shortAt e f = absurd (let d = sym (bind-short (body g) s p _ e) ∙ f in let z : _≡_ {A = ℕ} 0 1 = cc in omega arith)
 
-  -- ---- the facts that the rows follow from
+  -- ---- facts that give the rows
 
   abbrev number : ℕ
   number = read s b .report .number
 
-  -- the answer, by the two runs that it is made of
+  -- the result, by its two runs
   ran : {x : At FrameHeader} {y : At Frame} → runAt (begun set) s (placeOf 0) ≡ x → runAt (frame set) s (placeOf 0) ≡ y → result set s ≡ resultOf s x y
   unfolding result
   ran e f = ap₂ (resultOf s) e f
@@ -97,7 +96,7 @@ module _ (s : List ℕ) (b : List ℤ) where
   unfolding read
   buffer-is e = ap filled e
 
-  -- a refusal clears what a frame that has begun would fill
+  -- a refusal after the start clears the samples that the frame would fill
   pub begun-clears : {h : FrameHeader} → number ≢ 0 → Begun h → read s b .buffer ≡ cleared h b
   unfolding resultOf finished accepted
   begun-clears {h} some g = go (runAt (frame set) s (placeOf 0)) refl
@@ -107,7 +106,7 @@ module _ (s : List ℕ) (b : List ℤ) where
       go (refusedAt n) e = buffer-is (ran (g .1) e) ∙ filled-zeros n h
       go shortAt e = buffer-is (ran (g .1) e) ∙ filled-zeros 2 h
 
-  -- what has not begun leaves the buffer as it was
+  -- a frame that has not begun leaves the buffer as it was
   pub unbegun-keeps : NotBegun → read s b .buffer ≡ b
   unfolding resultOf untouched
   unbegun-keeps none = go (runAt (begun set) s (placeOf 0)) refl
@@ -117,7 +116,7 @@ module _ (s : List ℕ) (b : List ℤ) where
       go (refusedAt n) e = buffer-is (ran e refl)
       go shortAt e = buffer-is (ran e refl)
 
-  -- a frame that has begun ends with a frame, cut short, or a refusal of its subframes or its footer
+  -- once a frame has begun, it is accepted, cut short, or refused by its subframes or its footer
   begun-number : {h : FrameHeader} → Begun h → (number ≡ 0) ⊎ ((number ≡ 2) ⊎ Late number)
   unfolding resultOf finished accepted zeroed refusal
   begun-number {h} g = go (runAt (frame set) s (placeOf 0)) refl
@@ -127,7 +126,7 @@ module _ (s : List ℕ) (b : List ℤ) where
       go (refusedAt n) e = inr (inr (subst Late (sym (number-is (ran (g .1) e))) (begun-late (g .1) e)))
       go shortAt e = inr (inl (number-is (ran (g .1) e)))
 
-  -- so every other number comes before the subframes
+  -- so every other number is given before the subframes
   not-begun : {n : ℕ} → number ≡ n → n ≢ 0 → n ≢ 2 → late n ≡ false → NotBegun
   not-begun {n} e some cut early h g = go (begun-number g)
     where
@@ -139,7 +138,7 @@ module _ (s : List ℕ) (b : List ℤ) where
   keeps : {n : ℕ} → number ≡ n → n ≢ 0 → n ≢ 2 → late n ≡ false → read s b .buffer ≡ b
   keeps e some cut early = unbegun-keeps (not-begun e some cut early)
 
-  -- a footer's refusal comes after them
+  -- the footer's refusal is given after they have begun
   sum-begun : number ≡ 10 → (h : FrameHeader) × Begun h
   unfolding resultOf untouched refusal
   sum-begun e = go (runAt (begun set) s (placeOf 0)) refl
@@ -152,7 +151,7 @@ module _ (s : List ℕ) (b : List ℤ) where
 
   -- ---- the table
 
-  -- where the first subframe's first bit was read, the first N are zero; else all is as it was
+  -- where the first subframe's first bit was read, the first N samples are zero; else the buffer is as it was
   pub record ByStart : Type 0 where
     pub before : NotBegun → read s b .buffer ≡ b
     pub after : (h : FrameHeader) → Begun h → read s b .buffer ≡ cleared h b

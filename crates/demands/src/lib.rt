@@ -1,1 +1,1 @@
-// What the definition of a frame guarantees by itself, before any code reads one: theorems alone, in proofs/.
+// What the definition of a frame guarantees by itself, without any code: theorems alone, in proofs/.

@@ -1,13 +1,11 @@
--- DEMAND 3, of the code: over any two outcomes of `read_frame`. What an answer asks of the caller (`needs`, crate `error`) is
--- just what can change it: no bytes change an answer that does not wait for bytes, and no room one that does not want room.
--- Assumes nothing.
+-- DEMAND 3, for the code: an answer of `read_frame` changes only by what it asks of the caller. Assumes nothing.
 use Prim.Native.Nat.{ℕ, _≤_, _<_}
 use native.Mathlib.Omega.{arith}
 use mathlib.Core.Logic.{_≢_}
-use mathlib.Core.Path.{_≡_, refl, ap, sym, _∙_}
+use mathlib.Core.Path.{_≡_, ap, sym, _∙_}
 use mathlib.Core.List.{List, [], _++_}
 use lib.IntN.{ℤ}
-use lib.ListN.{length, take, drop}
+use lib.ListN.{length, take}
 use Rattle.error.specs.declared.Refusal.{Refusal}
 use Rattle.error.specs.declared.Refusal.the-variants.{NothingLeft, CutShort, NoRoom}
 use Rattle.error.specs.declared.Need.{Need}
@@ -24,20 +22,21 @@ use Rattle.frame.specs.Reads.{reportOf, Reads}
 use Rattle.frame.proofs.Outcome.{report-tells}
 use Rattle.promises.proofs.Outcomes.{ReadFrame, reads}
 
--- what an answer asks of the caller: a frame asks nothing more
+-- What an answer asks of the caller: a refusal, what `needs` of crate `error` says; a frame, nothing. Only what an
+-- answer asks for, bytes or room, can change it.
 abbrev pub asks : Answer → Need
 asks (Answer.Frame f) = Final
 asks (Answer.Refused e) = needsOf e
 
 -- ---- answers and numbers
 
--- a number names its refusal
+-- an answer with a refusal's number is that refusal
 named : (r : Answer) (x : Refusal) → reportOf r .number ≡ numberOf x → r ≡ Answer.Refused x
 unfolding refusal
 named (Answer.Frame f) x e = absurd (omega (arith, some-number x))
 named (Answer.Refused y) x e = ap Answer.Refused (number-tells y x e)
 
--- two outcomes of one definition's outcome
+-- two answers of the code to equal outcomes of the definition are equal
 equal : {x y : Outcome} {r r′ : Answer} {left left′ : List ℤ} → x ≡ y → Reads x r left → Reads y r′ left′ → (r ≡ r′) × (left ≡ left′)
 equal {r = r} {r′ = r′} e p q = (
   report-tells r r′ (p .report ∙ ap (λ (o : Outcome). o .report) e ∙ sym (q .report)),
@@ -48,16 +47,16 @@ module _ {s : List ℕ} {b : List ℤ} {r : Answer} {left : List ℤ} (o : ReadF
   number-is : read s b .report .number ≡ reportOf r .number
   number-is = sym (ap (λ (q : Report). q .number) (reads o .report))
 
-  -- an answer by its number
+  -- what an answer asks, by its number
   asks-by : (x : Refusal) → read s b .report .number ≡ numberOf x → asks r ≡ needsOf x
   asks-by x e = ap asks (named r x (sym number-is ∙ e))
 
-  -- ---- 1. More bytes never unsay an answer that does not wait for them: the answer and the buffer are the same.
+  -- ---- 1. More bytes never change an answer that does not wait for bytes: answer and buffer stay the same.
 
   pub bytes-change-nothing : asks r ≢ Wait → (t : List ℕ) {r′ : Answer} {left′ : List ℤ} → ReadFrame (s ++ t) b r′ left′ → (r ≡ r′) × (left ≡ left′)
   bytes-change-nothing known t p = equal (sym (Demand3.never-unsaid s t b (λ e. known (asks-by NothingLeft e)) (λ e. known (asks-by CutShort e)))) (reads o) (reads p)
 
-  -- ---- 2. More room changes no answer that does not want it; what the buffer has more is untouched.
+  -- ---- 2. More room never changes an answer that does not ask for room; the added room is untouched.
 
   pub room-changes-nothing : asks r ≢ Room → (more : List ℤ) {r′ : Answer} {left′ : List ℤ} → ReadFrame s (b ++ more) r′ left′ → (r ≡ r′) × (left ++ more ≡ left′)
   room-changes-nothing roomy more {r′} p =
@@ -66,7 +65,7 @@ module _ {s : List ℕ} {b : List ℤ} {r : Answer} {left : List ℤ} (o : ReadF
         ap (λ (l : List ℤ). l ++ more) (reads o .samples) ∙ sym (ap (λ (x : Outcome). x .buffer) same) ∙ sym (reads p .samples),
       )
 
-  -- ---- 3. A frame: its counted bytes are there, they alone get its answer and buffer, and each shorter beginning is cut short.
+  -- ---- 3. A frame: its consumed bytes are there, they alone give its answer and buffer, and fewer are cut short.
 
   module _ {f : Accepted} (is : r ≡ Answer.Frame f) where
     zero-number : read s b .report .number ≡ 0
@@ -88,23 +87,23 @@ module _ {s : List ℕ} {b : List ℤ} {r : Answer} {left : List ℤ} (o : ReadF
         (ap (λ (q : Report). q .number) (reads p .report)
         ∙ Demand3.fewer-cut-short s b zero-number m some (omega (arith, consumed-is)))
 
-  -- ---- 4. What the buffer held sways nothing.
+  -- ---- 4. What the buffer held before does not affect the answer.
 
   pub unswayed : {b′ : List ℤ} → length b ≡ length b′ → {r′ : Answer} {left′ : List ℤ} → ReadFrame s b′ r′ left′ → r ≡ r′
   unswayed {b′} e {r′} p = report-tells r r′ (reads o .report ∙ Demand3.unswayed-report s b b′ e ∙ sym (reads p .report))
 
-  -- ---- 5. Document 01's table, of what the samples hold afterwards.
+  -- ---- 5. Document 01's table: what the samples hold afterwards.
 
   pub left-by-table : (left ≡ read s b .buffer) × Table s b
   left-by-table = (reads o .samples, table s b)
 
--- nothing left is 1, and the buffer stays
+-- the empty input is refused as `NothingLeft`, and the buffer stays
 pub nothing-left : {b : List ℤ} {r : Answer} {left : List ℤ} → ReadFrame [] b r left → (r ≡ Answer.Refused NothingLeft) × (left ≡ b)
 nothing-left {b} {r} o =
     let one = Demand3.nothing-left b in
     (named r NothingLeft (sym (number-is o) ∙ one), reads o .samples ∙ table [] b .row-1 one)
 
--- ---- What is final stays, whatever bytes follow and however much room there is more.
+-- ---- A final answer stays, whatever bytes follow and however much room is added.
 
 pub final-stays : {s : List ℕ} {b : List ℤ} {r : Answer} {left : List ℤ} → ReadFrame s b r left → asks r ≡ Final
     → (t : List ℕ) (more : List ℤ) {r′ : Answer} {left′ : List ℤ} → ReadFrame (s ++ t) (b ++ more) r′ left′ → (r ≡ r′) × (left ++ more ≡ left′)

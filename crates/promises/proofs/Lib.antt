@@ -1,4 +1,4 @@
--- The demands, of the code: over any outcomes that meet the contracts of `read_frame` and `write_frame`.
+-- The demands, proved for the code: for any outcomes that meet the contracts of `read_frame` and `write_frame`.
 pub mod Outcomes
 pub mod Demand3
 pub mod ReadBack

@@ -1,6 +1,4 @@
--- What an outcome of `read_frame` or of `write_frame` is: an answer and what the lent buffer holds afterwards that meet the
--- function's own contract, as Rattle reads it off the source. A weaker contract breaks the two laws that follow, and with
--- them every theorem of this crate. Assumes nothing.
+-- Outcomes of `read_frame` and `write_frame`: an answer and a buffer that meet the contract. Assumes nothing.
 use Prim.Native.Nat.{ℕ}
 use mathlib.Core.Path.{_≡_, subst}
 use mathlib.Core.List.{List}
@@ -28,7 +26,11 @@ given κs args = record {
   size = args .1 .1 .1 .1 .1 .0;
 }
 
--- of `read_frame(s, samples)`, where the samples held b: the answer r, and the samples left
+-- The contracts here are those that Rattle reads off the source. A weaker contract breaks `reads` or `writes`, and with
+-- them every theorem of this crate.
+
+-- an outcome of `read_frame(s, samples)`, where the samples held b: it answers r, and the samples hold `left`
+-- afterwards
 pub record ReadFrame (s : List ℕ) (b : List ℤ) (r : Answer) (left : List ℤ) : Type 0 where
   pub κs : Lfts (read_frame.ended .signature .lifetimes)
   pub args : Args (read_frame.ended .signature) κs
@@ -40,7 +42,7 @@ pub reads : {s : List ℕ} {b : List ℤ} {r : Answer} {left : List ℤ} → Rea
 reads {s} {b} {r} {left} o =
     subst (λ (x : List ℤ). Reads (read s x) r left) (o .lent) (subst (λ (x : List ℕ). Reads (read x (o .args .1 .0 .now)) r left) (o .bytes) (o .meets))
 
--- of `write_frame(xs, .. settings .., out)`: the answer r, and the output left
+-- an outcome of `write_frame(xs, .. settings .., out)`: it answers r, and the output holds `left` afterwards
 pub record WriteFrame (set : FrameSetting) (xs : List ℤ) (out : List ℕ) (r : written.Answer) (left : List ℕ) : Type 0 where
   pub κs : Lfts (write_frame.ended .signature .lifetimes)
   pub args : Args (write_frame.ended .signature) κs

@@ -1,9 +1,7 @@
--- READ-BACK, of the code: what any outcome of `write_frame` left in the output, read by any outcome of `read_frame` into
--- enough room, is the samples again, whatever bytes follow the frame; and the frame is within the length bound.
--- Assumes nothing.
+-- READ-BACK, for the code: `read_frame` gets the samples back from what `write_frame` wrote. Assumes nothing.
 use Prim.Native.Nat.{ℕ, _≤_}
 use native.Mathlib.Omega.{arith}
-use mathlib.Core.Path.{_≡_, refl, ap, sym, _∙_, subst}
+use mathlib.Core.Path.{_≡_, refl, ap, sym, _∙_}
 use mathlib.Core.Bool.{Bool, true, false, cond}
 use mathlib.Core.List.{List, _++_}
 use lib.Dec.{leb}
@@ -16,14 +14,14 @@ use Rattle.rfc9639.specs.Read.{Outcome, read}
 use Rattle.rfc9639.specs.Write.{frameBytes, frameBound, allowed, allFit, Written, unwritten, write}
 use Rattle.rfc9639.proofs.Bound.{within-bound}
 use Rattle.readback.specs.First.{firstOf}
-use Rattle.readback.proofs.ReadBack.{read-back}
+use Rattle.readback.proofs.ReadBack.{writtenReport, read-back}
 use Rattle.frame.specs.declared.Answer.{Answer}
 use Rattle.frame.proofs.Outcome.{report-tells}
 use Rattle.writer.specs.declared.Answer as written
 use Rattle.writer.specs.Outcomes.{outcome}
 use Rattle.promises.proofs.Outcomes.{ReadFrame, reads, WriteFrame, writes}
 
--- what a frame that was written says of its settings and samples
+-- what a written frame says about its settings, samples and output
 record Wrote (set : FrameSetting) (xs : List ℤ) (out : List ℕ) (n : ℕ) (left : List ℕ) : Type 0 where
   ok : allowed set (length xs) ≡ true
   fit : allFit (set .bits) xs ≡ true
@@ -53,26 +51,21 @@ module _ {set : FrameSetting} {xs : List ℤ} {out : List ℕ} {n : ℕ} {left :
   abbrev w : Wrote set xs out n left
   w = wrote set xs out n left (writes o)
 
-  -- the frame stands first in the output
+  -- the output starts with the frame
   frame-first : take n left ≡ frameBytes set xs
   frame-first = ap (λ m. take m left) (w .long) ∙ ap (take (length (frameBytes set xs))) (w .laid) ∙ take-append-seam (frameBytes set xs) _
 
+  -- the frame is within the length bound
   pub written-within-bound : n ≤ frameBound set
   written-within-bound = omega (arith, w .long, within-bound set xs)
 
+  -- whatever bytes follow the frame, and in any buffer with room for the samples
   pub written-reads-back : (rest : List ℕ) (b : List ℤ) → length xs ≤ length b → {r : Answer} {kept : List ℤ} → ReadFrame (take n left ++ rest) b r kept
       → (r ≡ Answer.Frame (record { consumed = n; first = firstOf set; channels = channelCount (assignment (set .channels)); bits = set .bits; size = set .size }))
       × (kept ≡ xs ++ drop (length xs) b)
   written-reads-back rest b room {r} p =
       let back =
       ap (λ (x : List ℕ). read (x ++ rest) b) frame-first ∙ read-back set xs (w .ok) (w .fit) rest b room in (
-        report-tells r _ (reads p .report ∙ ap (λ (x : Outcome). x .report) back ∙ ap (λ m. record {
-          number = 0;
-          consumed = m;
-          first = firstOf set;
-          channels = channelCount (assignment (set .channels));
-          bits = set .bits;
-          size = set .size;
-        }) (sym (w .long))),
+        report-tells r _ (reads p .report ∙ ap (λ (x : Outcome). x .report) back ∙ ap (λ m. writtenReport set m (firstOf set)) (sym (w .long))),
         reads p .samples ∙ ap (λ (x : Outcome). x .buffer) back,
       )

@@ -1,4 +1,4 @@
--- A frame is read back, bit for bit (RFC 9639 section 9). Assumes nothing.
+-- The frame is read back (RFC 9639 section 9). Assumes nothing.
 use Prim.Native.Nat.{ℕ, _≤_}
 use native.Mathlib.Omega.{arith}
 use mathlib.Core.Path.{refl, ap, sym}
@@ -27,7 +27,7 @@ use Rattle.readback.proofs.Header.{headerOf, spells-header}
 use Rattle.readback.proofs.Subframe.{spells-subframe}
 use Rattle.readback.proofs.Lanes.{Held, lanes-held, joined-lanes}
 
--- what is behind the subframes
+-- what follows the subframes: the padding and the CRC-16
 abbrev footerBits : List ℕ → List ℕ
 footerBits before = replicate (padding (length before)) 0 ++ bitsOf 16 (crc16 (padded before))
 

@@ -51,7 +51,7 @@ unfolding channelsAndBits
 spells-channelsAndBits c h d =
     spells-bind _ (spells-bits 4 (omega arith)) (spells-checked 4 _ (le-leb c 10 h) (spells-last _ (spells-depthAndZero d) spells-done))
 
--- ---- the size
+-- ---- the block size
 
 abbrev bitsBehind : ℕ → ℕ → List ℕ
 bitsBehind code n = cond (eqb code 6) (bitsOf 8 (n - 1)) (cond (eqb code 7) (bitsOf 16 (n - 1)) [])
@@ -61,7 +61,7 @@ record Sized (n code : ℕ) : Type 0 where
   most : code < 16
   read : {before : List ℕ} → Spells before (blockSize code) (bitsBehind code n) n
 
--- a size that has a code of its own
+-- a block size that has a code of its own
 own : (m code : ℕ) {n : ℕ} → blockSize code ≡ done m → bitsBehind code m ≡ [] → 0 < code → code < 16 → eqb n m ≡ true → Sized n code
 own m code {n} b e some most t =
     subst (λ k. Sized k code) (sym (eqb-true n m t))
@@ -102,7 +102,7 @@ sized n some most =
       read = spells-last _ (spells-bits 16 (omega arith)) (spells-checked 4 _ (lt-ltb (n - 1) 65535 (omega arith)) (spells-value (omega arith) spells-done));
     }
 
--- ---- the header behind its first four bytes
+-- ---- the header after its first four bytes
 
 -- a number within its limit
 limited : (b n : ℕ) → b ≤ 1 → n ≤ numberLimit b → (n < 2 ^ 36) × ((eqb b 1 || leb n 2147483647) ≡ true)

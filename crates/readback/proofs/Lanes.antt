@@ -1,4 +1,4 @@
--- What the subframes store makes the channels again, and each fits its width (RFC 9639 section 4.2). Assumes nothing.
+-- Lanes: what the subframes store fits and gives the channels back (RFC 9639 section 4.2). Assumes nothing.
 use Prim.Native.Nat.{ℕ, zero, suc, _+_, _*_, _≤_, _<_}
 use native.Mathlib.Nat.{mul-le-mul-right, suc-mul, zero-mul}
 use native.Mathlib.Omega.{arith}
@@ -24,13 +24,13 @@ use Rattle.reading.proofs.Tests.{by-test}
 use Rattle.readback.proofs.Stereo.{side-fits, mid-fits}
 use Rattle.readback.proofs.Pairs.{Pair, length-pairs, every-pair, joined-left-side, joined-side-right, joined-mid-side}
 
--- n samples that fit the lane's width
+-- the lane has n samples that fit its width
 pub record Held (b n : ℕ) (xs : List ℤ) (lane : Lane) : Type 0 where
   pub count : length (stored n xs lane) ≡ n
   pub fits : Every (Fits (laneWidth b lane)) (stored n xs lane)
 
 module _ (n : ℕ) (xs : List ℤ) where
-  -- channels as they are, from channel a on
+  -- independent channels, from channel a on
   flat-from : (k a m : ℕ) → length xs ≡ (a + m) * n → flatMap (stored n xs) (map (laneOf (Independent k)) (counting a m)) ≡ drop (a * n) xs
   unfolding flatMap stored laneOf counting channel
   flat-from k a zero e = sym (drop-of-length-le xs {i = a * n} (omega arith))
@@ -85,7 +85,7 @@ module _ (n : ℕ) (xs : List ℤ) where
     held SideRight c e l = by-test (Held b n xs) (eqb c 0) Side (Channel 1) (λ _. held-side e) (λ _. held-channel 1 (omega arith))
     held MidSide c e l = by-test (Held b n xs) (eqb c 0) Mid Side (λ _. held-mid e) (λ _. held-side e)
 
-    -- two lanes
+    -- two lanes give the two channels back
     joined-two : (a : ChannelAssignment) (u v : Lane) → length xs ≡ 2 * n → joined a n (stored n xs u ++ stored n xs v) ≡ channel n xs 0 ++ channel n xs 1
         → joined a n (flatMap (stored n xs) (u ∷ v ∷ [])) ≡ xs
     unfolding flatMap

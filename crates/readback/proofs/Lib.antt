@@ -1,4 +1,4 @@
--- What is written is read back; and some frames that are written.
+-- What is written is read back; and examples of written frames.
 pub mod Spells
 pub mod Number
 pub mod Header

@@ -1,4 +1,4 @@
--- The coded number is read back (RFC 9639 section 9.1.5): one law over the count of bytes behind the first. Assumes nothing.
+-- The coded number is read back (RFC 9639 section 9.1.5), for every count of follower bytes. Assumes nothing.
 use Prim.Native.Nat.{ℕ, zero, suc, _+_, _*_, _/_, _%_, _^_, _<_}
 use native.Mathlib.Nat.{div-add-mod', mod-lt, mod-eq-of-lt, mul-add-mod-self-right, mul-le-mul-right, pow-suc, one-le-pow}
 use native.Mathlib.Omega.{arith}
@@ -15,7 +15,7 @@ use Rattle.rfc9639.specs.Write.{followers, numberBytes}
 use Rattle.reading.proofs.Tests.{tested, by-test, Taken, valueAt, rung}
 use Rattle.readback.proofs.Spells.{Spells, spells-as, spells-value, spells-by, spells-bits, spells-done, spells-bind, spells-checked}
 
--- one digit more, in any base
+-- one more digit, in any base
 digit : (b m acc v : ℕ) → 0 < b → 0 < m → (acc * b + v / m % b) * m + v % m ≡ acc * (m * b) + v % (m * b)
 digit b m acc v hb hm = omega (arith, split)
   where
@@ -44,14 +44,14 @@ spells-followed (suc n) acc v =
     ∙ digit 64 (64 ^ n) acc v (omega arith) (one-le-pow n 64 (omega arith)) ∙ rw pow-suc)
     (spells-followed n (acc * 64 + b % 64) v))))
 
--- a first byte b that says n more and leaves acc of the number
+-- a first byte b that announces n followers and holds the number's high part acc
 spells-form : (n b acc v : ℕ) {before : List ℕ} → numberFrom b ≡ followed n acc → b < 256 → acc * 64 ^ n + v % 64 ^ n ≡ v
     → Spells before codedNumber (bitsOfBytes (b ∷ followers n v)) v
 unfolding codedNumber
 spells-form n b acc v first h e =
     spells-as (bits-cons b (followers n v)) (spells-bind _ (spells-bits 8 h) (spells-by first (spells-value e (spells-followed n acc v))))
 
--- the first byte, by the ones that it starts with
+-- the definition's table of first bytes
 abbrev firsts : ℕ → List (Bool × Ask ℕ)
 firsts b =
     (ltb b 0x80, done b)

@@ -1,5 +1,4 @@
--- Two channels sample by sample: what pairs of their samples give, and that left and right come back from what two subframes
--- store. Assumes nothing.
+-- Pairs of channels: left and right come back from the two channels that a stereo frame stores. Assumes nothing.
 use Prim.Native.Nat.{ℕ, _≤_}
 use native.Mathlib.Omega.{arith}
 use mathlib.Core.Path.{_≡_, refl, ap, ap₂, sym, _∙_}
@@ -23,7 +22,7 @@ module _ {P : ℤ → Type 0} where
   every-pairwise Q f q (x ∷ xs) [] h g = tt
   every-pairwise Q f q (x ∷ xs) (y ∷ ys) h g = (q x y (h .0) (g .0), every-pairwise Q f q xs ys (h .1) (g .1))
 
-  -- two values of a pair, joined, give a third of it
+  -- where k of f and g equals e for every pair, so it does for two lists
   pairwise-pairwise : (k f g e : ℤ → ℤ → ℤ) → ((x y : ℤ) → P x → P y → k (f x y) (g x y) ≡ e x y) → (xs ys : List ℤ) → Every P xs → Every P ys
       → pairwise k (pairwise f xs ys) (pairwise g xs ys) ≡ pairwise e xs ys
   unfolding pairwise

@@ -1,5 +1,4 @@
--- The samples come back from what prediction misses, and of samples of 25 bits what a fixed predictor misses is small
--- enough to be stored (RFC 9639 section 9.2.5). Assumes nothing.
+-- Prediction: samples come back from their residuals, which fit 32 bits (RFC 9639 section 9.2.5). Assumes nothing.
 use Prim.Native.Nat.{ℕ, _+_, _*_, _^_, _≤_, _<_}
 use native.Mathlib.Nat.{mul-le-mul-left}
 use native.Mathlib.Omega.{arith}
@@ -21,7 +20,7 @@ use Rattle.readback.proofs.Samples.{Small}
 -- ---- the samples come back
 
 module _ (cs : List ℤ) (shift : ℕ) where
-  -- one sample from what was missed of it
+  -- one sample comes back from its residual
   predicted-back : (before : List ℤ) (x : ℤ) → Fits 32 x → predicted cs shift before (x -ℤ shiftDown shift (dot (pos 0) cs before)) ≡ x
   unfolding predicted
   predicted-back before x f =
@@ -48,7 +47,7 @@ unfolding fold
 small-of-abs (pos n) h = omega arith
 small-of-abs (negsuc n) h = omega arith
 
--- a predictor's coefficients, added up without their signs
+-- the sum of the coefficients' absolute values
 abbrev weight : List ℤ → ℕ
 weight = total natAbs
 

@@ -1,5 +1,4 @@
--- THE LAW: what the definition writes, the definition reads back, whatever bytes follow and however large the buffer is.
--- Assumes nothing.
+-- READ-BACK: what the definition writes it reads back, whatever follows and in any buffer with room. Assumes nothing.
 use Prim.Native.Nat.{ℕ, _+_, _*_, _≤_}
 use native.Mathlib.Omega.{arith}
 use mathlib.Core.Path.{_≡_, refl, ap, sym, _∙_}
@@ -53,7 +52,7 @@ module _ (set : FrameSetting) (xs : List ℤ) (rest : List ℕ) (room : ℕ) whe
   abbrev end : Place
   end = record { byte = length (frameBytes set xs); bit = 0 }
 
-  -- bytes whose bits spell the frame, from the first on
+  -- bytes whose bits spell a frame are read as that frame
   run-frame : Spells [] (frame (record { room = room })) (frameBits set xs) written
       → runAt (frame (record { room = room })) (frameBytes set xs ++ rest) (placeOf 0) ≡ gotAt written end
   unfolding toAt
@@ -63,8 +62,9 @@ module _ (set : FrameSetting) (xs : List ℤ) (rest : List ℕ) (room : ℕ) whe
       ∙ ap toAt (s .reads (bitsOfBytes rest))
       ∙ ap (gotAt written) (sym (place-is (length (frameBytes set xs)) 0 (0 + length (frameBits set xs)) (omega arith) (omega (arith, length-frameBits set xs))))
 
-abbrev reported : FrameSetting → ℕ → ℕ → Report
-reported set consumed first = record {
+-- the report on a written frame
+abbrev pub writtenReport : FrameSetting → ℕ → ℕ → Report
+writtenReport set consumed first = record {
   number = 0;
   consumed = consumed;
   first = first;
@@ -92,4 +92,4 @@ read-back set xs ok fit rest buffer room =
     let spells = spells-frame set xs (allowed-facts set (length xs) ok) (all-fit-facts (set .bits) xs fit) (length buffer) room in
     ap (λ r. record { report = r .report; buffer = r .front ++ drop (length (r .front)) buffer })
     (frame-result (record { room = length buffer }) (frameBytes set xs ++ rest) (run-frame set xs rest (length buffer) spells))
-    ∙ ap (λ n. record { report = reported set (length (frameBytes set xs)) n; buffer = xs ++ drop (length xs) buffer }) (first-is set)
+    ∙ ap (λ n. record { report = writtenReport set (length (frameBytes set xs)) n; buffer = xs ++ drop (length xs) buffer }) (first-is set)

@@ -1,4 +1,4 @@
--- Samples and residuals are read back, one by one and in a row (RFC 9639 sections 9.2.4 and 9.2.7). Assumes nothing.
+-- Samples and residuals are read back (RFC 9639 sections 9.2.4 and 9.2.7). Assumes nothing.
 use Prim.Native.Nat.{ℕ, _+_, _*_, _-_, _/_, _%_, _^_, _≤_, _<_}
 use native.Mathlib.Nat.{mod-lt, mod-eq-of-lt, div-add-mod'}
 use native.Mathlib.Omega.{arith}
@@ -21,7 +21,7 @@ use Rattle.rfc9639.specs.Write.{fits, allFit}
 use Rattle.rfc9639.proofs.Widths.{Fits, low-lt, wrapped-same}
 use Rattle.readback.proofs.Spells.{Spells, spells-as, spells-value, spells-by, spells-bits, spells-zeros, spells-done, spells-bind, spells-then, spells-last, spells-checked, spells-many}
 
--- ---- samples as they are
+-- ---- unencoded samples
 
 fits-facts : (w : ℕ) (x : ℤ) → fits w x ≡ true → Fits w x
 unfolding fits
@@ -44,7 +44,7 @@ module _ (w : ℕ) (h : 1 ≤ w) where
 
 -- ---- residuals
 
--- folded into 32 bits
+-- the folded form fits 32 bits
 abbrev pub Small : ℤ → Type 0
 Small r = fold r < 2 ^ 32
 
@@ -69,7 +69,7 @@ module _ (k : ℕ) where
     spells-partition =
         spells-bind _ (spells-bits 4 (omega arith)) (spells-by (rw (ne-eqb k 15 (omega arith))) (spells-many Small (riceBits k) (rice k) spells-rice rs small))
 
-    -- one partition, behind the warm-up
+    -- one partition, after the warm-up
     pub spells-residual : (order n : ℕ) → order ≤ n → length rs ≡ n - order → {before : List ℕ} → Spells before (residual order n) (residualBits k rs) rs
     unfolding residual residualBits each partitionSizes
     spells-residual order n l e =

@@ -1,5 +1,4 @@
--- Bits that spell a value: what a reader gets of them, whatever follows, and that it passes them all. One law for each way
--- in which a reader is made. Assumes nothing.
+-- Bits that spell a value: the reader gets it from just these bits, whatever follows. Assumes nothing.
 use Prim.Native.Nat.{ℕ, zero, suc, _+_, _*_, _^_, _<_}
 use native.Mathlib.Nat.{add-zero, zero-add, zero-mul, mod-eq-of-lt}
 use native.Mathlib.Omega.{arith}
@@ -14,11 +13,11 @@ use Rattle.reading.proofs.Running.{run-bind-got}
 use Rattle.reading.proofs.Holding.{Every}
 use Rattle.reading.proofs.Spelling.{length-bitsOf, spelt-bitsOf}
 
--- behind the bits `before`, the bits `bs` are what p reads as a
+-- after the bits `before`, the reader p reads just the bits `bs`, and gets a
 pub record Spells {A : Type 0} (before : List ℕ) (p : Ask A) (bs : List ℕ) (a : A) : Type 0 where
   pub reads : (rest : List ℕ) → run p (before ++ (bs ++ rest)) (length before) ≡ got a (length before + length bs)
 
--- ---- the same bits, value or reader, written otherwise
+-- ---- equal bits, values or readers
 
 pub spells-as : {A : Type 0} {before : List ℕ} {p : Ask A} {bs cs : List ℕ} {a : A} → bs ≡ cs → Spells before p bs a → Spells before p cs a
 spells-as {before} {p} {a} e h = subst (λ ds. Spells before p ds a) e h
@@ -67,7 +66,7 @@ module _ {before : List ℕ} where
   unfolding passed run
   spells-passed = record { reads = λ rest. ap₂ got (take-append-seam before rest) (sym (add-zero (length before))) }
 
-  -- ---- one reader behind another
+  -- ---- one reader after another
 
   pub spells-done : {A : Type 0} {a : A} → Spells before (done a) [] a
   unfolding run
@@ -84,7 +83,7 @@ module _ {before : List ℕ} where
         ∙ ap (got b) (simp length-append (omega arith));
   }
 
-  -- what reads nothing
+  -- a first step that reads nothing
   pub spells-then : {A B : Type 0} {p : Ask A} (k : A → Ask B) {cs : List ℕ} {a : A} {b : B} → Spells before p [] a → Spells before (k a) cs b
       → Spells before (p >>= k) cs b
   spells-then {p} k {cs} {a} {b} h g = spells-bind k h (subst (λ s. Spells s (k a) cs b) (sym (append-nil before)) g)
@@ -103,7 +102,7 @@ module _ {before : List ℕ} where
       → Spells before (require b n >>= k) cs a
   spells-checked n k e g = spells-then k (spells-require n e) g
 
--- ---- lists of what was read, where P holds of each
+-- ---- lists of values, where P holds of each
 
 module _ {A : Type 0} (P : A → Type 0) (f : A → List ℕ) where
   pub spells-many : (p : Ask A) → ((x : A) → P x → (before : List ℕ) → Spells before p (f x) x) → (xs : List A) → Every P xs

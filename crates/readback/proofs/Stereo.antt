@@ -1,5 +1,4 @@
--- Left and right come back from the mean and the difference, and from one of them and the difference (RFC 9639 section
--- 4.2). Assumes nothing.
+-- Stereo: left and right come back from side and left, right or mid (RFC 9639 section 4.2). Assumes nothing.
 use Prim.Native.Nat.{ℕ, zero, suc, _+_, _-_, _*_, _/_, _%_, _^_, _≤_, _<_}
 use native.Mathlib.Omega.{arith}
 use mathlib.Core.Path.{_≡_, refl, ap, sym, _∙_}
@@ -17,7 +16,7 @@ minus-minus : (a b : ℤ) → a -ℤ (a -ℤ b) ≡ b
 minus-minus a b =
     ap (λ z. a +ℤ z) (negℤ-+ℤ a (negℤ b) ∙ ap (λ z. negℤ a +ℤ z) (negℤ-negℤ b)) ∙ sym (+ℤ-assoc a (negℤ a) b) ∙ ap (λ z. z +ℤ b) (+ℤ-invr a) ∙ +ℤ-idl b
 
--- twice the first from the sum and the difference, and twice the second
+-- sum plus difference is twice the first, and sum minus difference is twice the second
 sum-and-difference : (a b : ℤ) → (a +ℤ b) +ℤ (a -ℤ b) ≡ a +ℤ a
 sum-and-difference a b =
     +ℤ-comm (a +ℤ b) (a -ℤ b) ∙ +ℤ-assoc a (negℤ b) (a +ℤ b)
@@ -41,7 +40,7 @@ twice-half (negsuc n) =
     let twice : suc (n / 2) * 2 ≡ suc (suc (n / 2 * 2)) = omega arith in
     rw twice (rw (lt-ltb (2 - suc (n % 2)) (suc (suc (n / 2 * 2))) (omega arith)) (ap negsuc (omega arith)))
 
--- a sum is odd where the difference is
+-- a sum is odd exactly where the difference is
 odd-neg : (b : ℤ) → low 1 (negℤ b) ≡ low 1 b
 unfolding low
 odd-neg (pos zero) = refl
@@ -54,7 +53,7 @@ odd-difference a b = low-add-of 1 a a (negℤ b) b refl (odd-neg b)
 -- ---- a pair of samples of w bits
 
 module _ {w : ℕ} (h : 1 ≤ w) (most : w ≤ 24) {l r : ℤ} (f : Fits w l) (g : Fits w r) where
-  -- what fits one bit more, or less, fits 32
+  -- what fits 32 bits wraps to itself
   in32 : {v : ℕ} {z : ℤ} → v ≤ 32 → Fits v z → wrapped 32 z ≡ z
   in32 {v} {z} k e = wrapped-same 32 z (omega arith) (fits-mono k e)
 

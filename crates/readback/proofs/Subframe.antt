@@ -1,4 +1,4 @@
--- A subframe is read back, in each way that is open to its channel (RFC 9639 section 9.2). Assumes nothing.
+-- The subframe is read back, whichever candidate it is stored as (RFC 9639 section 9.2). Assumes nothing.
 use Prim.Native.Nat.{ℕ, zero, suc, _+_, _≤_, _<_, min}
 use native.Mathlib.Nat.{sub-zero}
 use native.Mathlib.Omega.{arith}
@@ -69,7 +69,7 @@ replicate-uniform x [] e = refl
 replicate-uniform x (y ∷ ys) e =
     ap₂ (λ z zs. z ∷ zs) (same-is x y (and-fst (same x y) (uniform (x ∷ ys)) e)) (replicate-uniform x ys (and-snd (same x y) (uniform (x ∷ ys)) e))
 
--- ---- each way
+-- ---- each candidate
 
 kind-of : (order : ℕ) → order < 5 → subframeType (8 + order) ≡ done (Fixed order)
 unfolding subframeType
@@ -85,7 +85,7 @@ module _ (w : ℕ) (h : 1 ≤ w) (most : w ≤ 25) (xs : List ℤ) (fit : Every 
   fit-in v l = every-imp (λ x f. fits-mono l f) xs fit
 
   module _ {before : List ℕ} where
-    -- behind a header that wastes no bits
+    -- after a header with no wasted bits
     spells-kind : (code : ℕ) (kind : SubframeType) {bs : List ℕ} → code < 64 → subframeType code ≡ done kind → orderOf kind ≤ length xs
         → Spells (before ++ subframeHead code) (samples kind w (length xs)) bs xs → Spells before (subframe (length xs) w) (subframeHead code ++ bs) xs
     unfolding subframe subframeBehind

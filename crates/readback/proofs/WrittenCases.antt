@@ -1,4 +1,4 @@
--- What the writer's definition comes to on some inputs, each frame worked out by other means. Assumes nothing.
+-- Written frames: what the writer's definition gives for some inputs, each worked out by other means. Assumes nothing.
 use Prim.Native.Nat.{ℕ}
 use mathlib.Core.Path.{_≡_, refl}
 use mathlib.Core.List.{[], _∷_, _++_}
@@ -12,13 +12,13 @@ abbrev setting : ℕ → ℕ → ℕ → ℕ → ℕ → FrameSetting
 setting channels bits blocking number size = record { channels = channels; bits = bits; blocking = blocking; number = number; size = size }
 
 pub record WrittenCases : Type 0 where
-  -- one sample 0 of 16 bits: fixed order 0 with 19 bits, not constant with 24
+  -- one sample 0 of 16 bits: a fixed predictor of order 0 in 19 bits, not constant in 24
   pub one-zero : write (setting 0 16 0 0 1) (pos 0 ∷ []) (replicate 13 7)
       ≡ record { number = 0; length = 12; output = hex 12 0xfff860080000bb10002049a2 ++ 7 ∷ [] }
-  -- mid/side, variable blocking: order 1 of mid, whose later rivals are no shorter; a two-byte number
+  -- mid/side, variable blocking, a two-byte number; mid takes order 1, and no later candidate is shorter
   pub mid-side-tie : write (setting 10 8 1 300 4) (pos 1 ∷ pos 2 ∷ pos 3 ∷ pos 5 ∷ pos 4 ∷ pos 4 ∷ pos 4 ∷ pos 4 ∷ []) (replicate 19 7)
       ≡ record { number = 0; length = 18; output = hex 18 0xfff960a2c4ac03a91202000c880026f4bd0e ++ 7 ∷ [] }
-  -- three channels: constant, and two verbatim
+  -- three channels: one constant, two verbatim
   pub three-channels : write (setting 2 8 0 70000 3) (pos 5 ∷ pos 5 ∷ pos 5 ∷ pos 100 ∷ minus 100 ∷ pos 30 ∷ minus 128 ∷ pos 127 ∷ minus 128 ∷ []) (replicate 23 7)
       ≡ record { number = 0; length = 22; output = hex 22 0xfff86022f09185b002e3000502649c1e02807f80c189 ++ 7 ∷ [] }
   -- side/right, the largest sample number

@@ -1,5 +1,5 @@
--- The number of a written frame's first sample (RFC 9639 section 9.1.5): where the blocking is fixed, all frames before it
--- are of its size.
+-- The number of a written frame's first sample (RFC 9639 section 9.1.5). With fixed blocking, all frames before it have
+-- its block size.
 use Prim.Native.Nat.{ℕ, _*_}
 use lib.Dec.{eqb}
 use Rattle.reading.specs.Reading.{if_then_else_}

@@ -1,2 +1,2 @@
--- What a written frame says of its samples.
+-- What a written frame says about its samples.
 pub mod First

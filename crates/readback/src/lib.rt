@@ -1,1 +1,1 @@
-// What is written is read back: a theorem about the two definitions alone, in proofs/.
+// What the writer's definition writes, the reader's definition reads back: theorems alone, in proofs/.

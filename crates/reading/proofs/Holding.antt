@@ -1,5 +1,4 @@
--- What holds of everything that a reader gets, and of each number that it refuses by, whatever the input: read off the
--- tree. n bits answer a number below 2 ^ n; of the zeros and of the bits passed nothing is known. Assumes nothing.
+-- Postconditions: what holds of every value that a reader gets and of every refusal, on any input. Assumes nothing.
 use Prim.Native.Nat.{ℕ, zero, suc, _+_, _^_, _<_}
 use mathlib.Core.Path.{_≡_, refl, ap, ap₂, _∙_}
 use mathlib.Core.Bool.{Bool, true, false, cond}
@@ -11,7 +10,8 @@ use Rattle.reading.specs.Bytes.{bitsOfBytes}
 use Rattle.reading.specs.Places.{position, inside, At, gotAt, refusedAt, shortAt, toAt, runAt}
 use Rattle.reading.proofs.Bits.{bits-bound}
 
--- R of each refusal, P of each value
+-- R holds of each refusal and P of each value. It is read off the tree: n bits are a number below 2 ^ n, and nothing is
+-- known about a count of zeros or about the bits read so far.
 pub data Holds {A : Type 0} (R : ℕ → Type 0) (P : A → Type 0) : Ask A → Type 0 where
   value : {a : A} → P a → Holds R P (done a)
   refusal : {n : ℕ} → R n → Holds R P (stop n)
@@ -19,7 +19,7 @@ pub data Holds {A : Type 0} (R : ℕ → Type 0) (P : A → Type 0) : Ask A → 
   any-zeros : {k : ℕ → Ask A} → ((v : ℕ) → Holds R P (k v)) → Holds R P (ask nextZeros k)
   any-seen : {k : List ℕ → Ask A} → ((l : List ℕ) → Holds R P (k l)) → Holds R P (seen k)
 
--- ---- how it is shown
+-- ---- how it is proved for a reader
 
 module _ {A B : Type 0} {R : ℕ → Type 0} {Q : A → Type 0} {P : B → Type 0} (k : A → Ask B) where
   pub holds-bind : {p : Ask A} → Holds R Q p → ((a : A) → Q a → Holds R P (k a)) → Holds R P (p >>= k)
@@ -37,7 +37,7 @@ holds-weaken f (any-bits h) = any-bits (λ v l. holds-weaken f (h v l))
 holds-weaken f (any-zeros h) = any-zeros (λ v. holds-weaken f (h v))
 holds-weaken f (any-seen h) = any-seen (λ l. holds-weaken f (h l))
 
--- the same for the refusals
+-- the same for refusals
 pub holds-refused : {A : Type 0} {R S : ℕ → Type 0} {P : A → Type 0} {p : Ask A} → ((n : ℕ) → R n → S n) → Holds R P p → Holds S P p
 holds-refused f (value h) = value h
 holds-refused f (refusal {n = n} h) = refusal (f n h)
@@ -58,7 +58,7 @@ module _ {R : ℕ → Type 0} where
   unfolding passed
   holds-passed = any-seen (λ l. value tt)
 
-  -- behind a check, what it checked
+  -- after a check, what it checked holds
   pub holds-require : (b : Bool) (n : ℕ) → R n → Holds R (λ u. b ≡ true) (require b n)
   unfolding require
   holds-require true n h = value refl
@@ -68,7 +68,7 @@ module _ {R : ℕ → Type 0} where
   holds-if true h g = h refl
   holds-if false h g = g refl
 
--- ---- lists of what was got: how many, and what holds of each
+-- ---- lists of values: how many, and what holds of each
 
 abbrev pub Every : {A : Type 0} → (A → Type 0) → List A → Type 0
 Every P [] = Unit {0}
@@ -120,7 +120,7 @@ module _ {A : Type 0} {R : ℕ → Type 0} {P : A → Type 0} where
       (λ a q. holds-bind _ (holds-each f size xs (h .1))
       (λ rest r. value (record { count = length-append a rest ∙ ap₂ (λ (m n : ℕ). m + n) (q .count) (r .count); every = every-append P a rest (q .every) (r .every) })))
 
--- ---- what it says of runs
+-- ---- what it says about a run
 
 abbrev pub Meets : {A : Type 0} → (ℕ → Type 0) → (A → Type 0) → At A → Type 0
 Meets R P (gotAt a at) = P a
@@ -142,7 +142,7 @@ module _ {A : Type 0} (R : ℕ → Type 0) (P : A → Type 0) (s : List ℕ) whe
   ran i (any-zeros {k = k} h) = followed (answer nextZeros (bitsOfBytes s) i) (λ v j. run (k v) (bitsOfBytes s) j) (λ v j e. ran j (h v))
   ran i (any-seen h) = ran i (h (take i (bitsOfBytes s)))
 
-  -- whatever the bytes and the place
+  -- on any bytes, from any place
   pub holds-at : {p : Ask A} (at : Place) → Holds R P p → Meets R P (runAt p s at)
   unfolding runAt
   holds-at {p} at h = go (inside s at)

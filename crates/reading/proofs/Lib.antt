@@ -1,4 +1,4 @@
--- Laws of readers: what every tree obeys, and what the layers above cite.
+-- Laws that every reader obeys, whatever the format. The crates above cite them.
 pub mod Tests
 pub mod Spelling
 pub mod Prefix

@@ -1,4 +1,4 @@
--- The prefix rules, once for every reader: what a reader does is settled by the bits that it passed.
+-- Prefix rules on bits, for every reader: what a reader answers depends only on the bits that it has read.
 use Prim.Native.Nat.{ℕ, zero, suc, _+_, _*_, _≤_, _<_, zero-le, suc-le-suc}
 use native.Mathlib.Nat.{add-zero, zero-add, suc-add}
 use native.Mathlib.Omega.{arith}
@@ -8,13 +8,13 @@ use lib.ListN.{length, take, drop, length-drop, length-take, take-append-drop}
 use lib.Seq.{take-take, take-append-le, take-nil}
 use Rattle.reading.specs.Reading.{Question, nextBits, nextZeros, Ask, done, stop, ask, seen, Answer, found, cut, bitsFrom, zerosFrom, answer, Got, got, refused, short, follow, run}
 
--- where a run ended
+-- the position where a run ended, with a value or a refusal
 abbrev pub Ends : {A : Type 0} → Got A → ℕ → Type 0
 Ends (got a i) j = i ≡ j
 Ends (refused n i) j = i ≡ j
 Ends short j = ⊥
 
--- an answer that ends w bits on is there in what agrees on those
+-- The answer ends w bits on, and every list that agrees on those w bits gives the same answer.
 abbrev Local : (ℕ → List ℕ → Answer) → ℕ → List ℕ → ℕ → ℕ → Type 0
 Local f i r v j = (w : ℕ) × (i + w ≡ j) × (w ≤ length r) × ((r′ : List ℕ) → take w r′ ≡ take w r → f i r′ ≡ found v j)
 
@@ -24,12 +24,12 @@ never e = absurd (let z : _≡_ {A = ℕ} 0 1 = cc in omega arith)
 no-cons : {X : Type 0} {b : ℕ} {l : List ℕ} → _≡_ {A = List ℕ} [] (b ∷ l) → X
 no-cons e = absurd (let z : _≡_ {A = ℕ} 0 1 = cc in omega arith)
 
--- what agrees with b ∷ r on its first bits is b and an agreeing rest
+-- a list that agrees with b ∷ r on the first w + 1 bits is b and a rest that agrees with r on w
 starts : (b : ℕ) (r : List ℕ) (w : ℕ) (r′ : List ℕ) → take (suc w) r′ ≡ b ∷ take w r → (t : List ℕ) × (r′ ≡ b ∷ t) × (take w t ≡ take w r)
 starts b r w [] e = no-cons e
 starts b r w (c ∷ t) e = (t, cc, cc)
 
--- one bit more in front
+-- one more bit in front
 more : (f g : ℕ → List ℕ → Answer) (i b : ℕ) (r : List ℕ) {v j : ℕ} → ((t : List ℕ) → g i (b ∷ t) ≡ f (suc i) t) → Local f (suc i) r v j → Local g i (b ∷ r) v j
 more f g i b r e (w, ends, le, law) =
     (suc w, omega arith, suc-le-suc le, λ r′ h. let q = starts b r w r′ h in ap (g i) (q .1) ∙ e (q .0) ∙ law (q .0) (q .2))
@@ -47,7 +47,7 @@ zeros-local z i (zero ∷ r) e = more (zerosFrom (suc z)) (zerosFrom z) i zero r
 zeros-local z i (suc b ∷ r) {v} {j} e =
     (1, native.Mathlib.Numerals.add-one i ∙ (cc), suc-le-suc zero-le, λ r′ h. let q = starts (suc b) r 0 r′ h in ap (zerosFrom z i) (q .1) ∙ e)
 
--- the same of the whole input
+-- The same for the whole input: f ends between i and the input's end, and depends only on the bits before its end.
 abbrev Settled : {X : Type 0} → (List ℕ → X) → ℕ → List ℕ → ℕ → Type 0
 Settled f i s j = (i ≤ j) × (j ≤ length s) × ((s′ : List ℕ) → take j s′ ≡ take j s → f s′ ≡ f s)
 
@@ -86,7 +86,7 @@ ask-settled q k s i h ih (found v m) eq e =
     )
 ask-settled q k s i h ih cut eq e = absurd e
 
--- THE LAW: where a run ends is at or behind its start and within the input, and an input that agrees up to there has the same run.
+-- THE LAW: a run ends at or after its start, within the input, and an input that agrees up to there has the same run.
 pub settled : {A : Type 0} (p : Ask A) (s : List ℕ) (i : ℕ) {j : ℕ} → i ≤ length s → Ends (run p s i) j → Settled (λ t. run p t i) i s j
 unfolding run
 settled (done a) s i {j} h e = (omega arith, omega arith, λ s′ q. refl)
@@ -97,15 +97,15 @@ settled (seen k) s i {j} h e =
     (q .0, q .1, λ s′ t. ap (λ l. run (k l) s′ i) (shorter s s′ (q .0) t) ∙ q .2 s′ t)
 
 module _ {A : Type 0} (p : Ask A) (s : List ℕ) (i : ℕ) (h : i ≤ length s) where
-  -- (a), (c): what ended stays so, whatever follows
+  -- (a), (c): a run that ended is the same whatever follows
   pub extended : (j : ℕ) (t : List ℕ) → Ends (run p s i) j → run p (s ++ t) i ≡ run p s i
   extended j t e = settled p s i h e .2 (s ++ t) (take-append-le j s t (settled p s i h e .1))
 
-  -- (b): the bits up to the end suffice
+  -- (b): the bits up to where it ended suffice
   pub kept : (j m : ℕ) → j ≤ m → Ends (run p s i) j → run p (take m s) i ≡ run p s i
   kept j m l e = settled p s i h e .2 (take m s) (take-take j m s l)
 
--- a run that ended at two places ended at one
+-- a run ends at one position
 one-end : {A : Type 0} (x : Got A) (j k : ℕ) → Ends x j → Ends x k → j ≡ k
 one-end (got a i) j k e f = cc
 one-end (refused n i) j k e f = cc
@@ -127,6 +127,6 @@ module _ {A : Type 0} (p : Ask A) (s : List ℕ) (i m j : ℕ) (h : i ≤ length
   ending (refused n k) q = absurd (no-end k (subst (λ x. Ends x k) (sym q) refl))
   ending short q = q
 
-  -- (b): and fewer do not
+  -- (b): fewer bits are too short
   pub cut-short : run p (take m s) i ≡ short
   cut-short = ending (run p (take m s) i) refl

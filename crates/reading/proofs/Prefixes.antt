@@ -1,4 +1,4 @@
--- The prefix rules on bytes, from a place: what was got or refused stays so whatever follows; the bytes up to the place behind suffice; fewer are short.
+-- Prefix rules on bytes: an answer is the same whatever follows; the bytes up to its end suffice; fewer are too short.
 use Prim.Native.Nat.{ℕ, zero, suc, _+_, _*_, _≤_, _<_}
 use native.Mathlib.Omega.{arith}
 use mathlib.Core.Path.{_≡_, refl, ap, sym, _∙_, subst}
@@ -31,7 +31,7 @@ bits-take (suc m) (b ∷ s) =
     ap (λ (l : List ℕ). bitsOfByte b ++ l) (bits-take m s) ∙ sym (eight b (8 * m) (bitsOfBytes s))
     ∙ ap (λ n. take n (bitsOfByte b ++ bitsOfBytes s)) (let e : 8 + 8 * m ≡ 8 * suc m = omega arith in e)
 
--- what was passed at a place: as many bits as its position
+-- the bits that were read before a place: as many as its position
 pub passed-at : (s : List ℕ) (at : Place) → In s at → runAt passed s at ≡ gotAt (take (position at) (bitsOfBytes s)) at
 unfolding run passed toAt
 passed-at s at h = runAt-in passed h ∙ ap (gotAt (take (position at) (bitsOfBytes s))) (position-place at (h .bit))
@@ -39,14 +39,14 @@ passed-at s at h = runAt-in passed h ∙ ap (gotAt (take (position at) (bitsOfBy
 pub passed-length : (s : List ℕ) (at : Place) → In s at → length (take (position at) (bitsOfBytes s)) ≡ position at
 passed-length s at h = lib.Seq.length-take-le (position at) (bitsOfBytes s) (omega (arith, length-bits s, h .end))
 
--- at the start of a byte, the bits of the bytes before it
+-- at the start of a byte, they are the bits of the bytes before it
 pub passed-bytes : (s : List ℕ) (at : Place) → at .bit ≡ 0 → In s at → runAt passed s at ≡ gotAt (bitsOfBytes (take (at .byte) s)) at
 passed-bytes s at e h =
     passed-at s at h
     ∙ ap (λ (l : List ℕ). gotAt l at)
     (ap (λ n. take n (bitsOfBytes s)) (let f : 8 * at .byte + at .bit ≡ 8 * at .byte = omega arith in f) ∙ sym (bits-take (at .byte) s))
 
--- what the runs on the bits say of those on the bytes
+-- a run on bytes that is not short starts inside them, and the run on their bits ends somewhere
 ended : {A : Type 0} (p : Ask A) (s : List ℕ) (at : Place) → (runAt p s at ≡ shortAt → ⊥)
     → In s at × ((j : ℕ) × Ends (run p (bitsOfBytes s) (position at)) j)
 unfolding runAt toAt
@@ -90,20 +90,20 @@ module _ {A : Type 0} (p : Ask A) (s : List ℕ) (at : Place) where
     ends : Ends (run p (bitsOfBytes s) (position at)) (position at′)
     ends = subst (λ y. Ends y (position at′)) (sym (got-run .1)) refl
 
-    -- (b): the place behind is at or behind the start, and no further than the input's end
+    -- (b): a run ends at or after its start, and not past the end of the input
     pub at-forward : (position at ≤ position at′) × (position at′ ≤ 8 * length s)
     at-forward = let q = settled p (bitsOfBytes s) (position at) within ends in (q .0, omega (arith, length-bits s, q .1))
 
     cut-to : (m : ℕ) → In (take m s) at → runAt p (take m s) at ≡ toAt (run p (take (8 * m) (bitsOfBytes s)) (position at))
     cut-to m i = runAt-in p i ∙ ap (λ l. toAt (run p l (position at))) (bits-take m s)
 
-    -- (b): the bytes up to there suffice
+    -- (b): the bytes up to its end suffice
     pub at-kept : (m : ℕ) → position at′ ≤ 8 * m → runAt p (take m s) at ≡ gotAt a at′
     at-kept m l =
         cut-to m (record { bit = got-run .0 .bit; end = omega (arith, length-take m s, got-run .0 .end, at-forward .0) })
         ∙ ap toAt (kept p (bitsOfBytes s) (position at) within (position at′) (8 * m) l ends) ∙ sym (runAt-in p (got-run .0)) ∙ g
 
-    -- (b): and fewer are short
+    -- (b): fewer bytes are too short
     pub at-cut : (m : ℕ) → 8 * m < position at′ → runAt p (take m s) at ≡ shortAt
     unfolding toAt
     at-cut m l = go (inside (take m s) at) refl

@@ -1,9 +1,7 @@
--- Laws of runs on bytes, from a place: where a run may start and end, one reader behind another, the same reader many
--- times, a reader for each of some things. The functions that read cite these and never the text of `run`.
--- Assumes nothing.
+-- Runs on bytes: where they start and end, single questions, sequences, checks and lists. Assumes nothing.
 use Prim.Native.Nat.{ℕ, suc, _+_, _*_, _^_, _≤_, _<_}
 use native.Mathlib.Omega.{arith}
-use mathlib.Core.Path.{_≡_, refl, ap, ap₂, sym, _∙_, subst, fun-ext}
+use mathlib.Core.Path.{_≡_, refl, ap, ap₂, sym, _∙_, subst}
 use mathlib.Core.Bool.{Bool, true, false, _&&_, cond}
 use mathlib.Core.List.{List, [], _∷_, _++_, append-assoc, append-nil}
 use borrow.Author.Tests.{ltb-true, leb-true, lt-ltb, le-leb, le-ltb, lt-leb}
@@ -47,7 +45,7 @@ pub outside-end : (s : List ℕ) (p : Place) → p .bit < 8 → 8 * length s < p
 unfolding inside
 outside-end s p b h = rw (lt-ltb _ _ b) (lt-leb _ _ h)
 
--- a place that a function made
+-- a place by its byte and bit is the place of its position
 pub place-is : (byte bit i : ℕ) → bit < 8 → 8 * byte + bit ≡ i → _≡_ {A = Place} (record { byte = byte; bit = bit }) (placeOf i)
 place-is byte bit i h e = ap₂ (λ (x y : ℕ). record { byte = x; bit = y }) (omega arith) (omega arith)
 
@@ -61,7 +59,7 @@ position-place p h = sym (place-is (p .byte) (p .bit) (position p) h refl)
 pub start-in : (s : List ℕ) → In s (placeOf 0)
 start-in s = record { bit = omega arith; end = omega arith }
 
--- ---- a run by itself
+-- ---- a run of one step
 
 pub runAt-in : {A : Type 0} (p : Ask A) {s : List ℕ} {at : Place} → In s at → runAt p s at ≡ toAt (run p (bitsOfBytes s) (position at))
 unfolding runAt
@@ -93,7 +91,7 @@ pub runAt-ask : (q : Question) {s : List ℕ} {at : Place} → In s at → runAt
 unfolding run
 runAt-ask q {s} {at} h = runAt-in (ask q done) h ∙ one (answer q (bitsOfBytes s) (position at))
 
--- ---- one reader behind another
+-- ---- one reader after another
 
 bindGot : {A B : Type 0} → Got A → (A → ℕ → Got B) → Got B
 bindGot (got a j) k = k a j
@@ -113,7 +111,7 @@ run-bind (stop n) k s i = refl
 run-bind (ask q f) k s i = follow-bind (answer q s i) (λ v j. run (f v) s j) (λ v j. run (f v >>= k) s j) _ (λ v j. run-bind (f v) k s j)
 run-bind (seen f) k s i = run-bind (f (take i s)) k s i
 
--- what a run goes on with
+-- after a value, the run goes on with the next reader
 pub run-bind-got : {A B : Type 0} (p : Ask A) (k : A → Ask B) (s : List ℕ) (i : ℕ) {a : A} {j : ℕ} → run p s i ≡ got a j → run (p >>= k) s i ≡ run (k a) s j
 unfolding bindGot
 run-bind-got p k s i e = run-bind p k s i ∙ ap (λ x. bindGot x (λ a j. run (k a) s j)) e
@@ -124,7 +122,7 @@ module _ {A : Type 0} (p : Ask A) (s : List ℕ) (at : Place) where
       let q = settled p (bitsOfBytes s) (position at) {j = j} (omega (arith, length-bits s, h .end)) (subst (λ x. Ends x j) (sym e) refl) in
       record { bit = omega arith; end = omega (arith, length-bits s, q .1) }
 
-  -- a run on the bytes ends at a place of theirs
+  -- a run on bytes ends at a place inside them
   pub stays-in : {a : A} {at′ : Place} → runAt p s at ≡ gotAt a at′ → In s at′
   unfolding runAt toAt
   stays-in {a} {at′} e = go (inside s at) refl (run p (bitsOfBytes s) (position at)) refl e
@@ -148,7 +146,7 @@ module _ {A : Type 0} (p : Ask A) (s : List ℕ) (at : Place) where
       go true e = ap toAt (run-bind p k (bitsOfBytes s) (position at)) ∙ ran (inside-in s at e) (run p (bitsOfBytes s) (position at)) refl
       go false e = refl
 
--- a caller's step, by what the callee answered
+-- two readers in sequence, by the answer of the first
 module _ {A B : Type 0} (p : Ask A) (s : List ℕ) (at : Place) (k : A → Ask B) where
   pub bind-is : {y : At A} → runAt p s at ≡ y → runAt (p >>= k) s at ≡ andThen y (λ a at′. runAt (k a) s at′)
   bind-is e = runAt-bind p s at k ∙ ap (λ y. andThen y (λ a at′. runAt (k a) s at′)) e
@@ -165,7 +163,7 @@ module _ {A B : Type 0} (p : Ask A) (s : List ℕ) (at : Place) (k : A → Ask B
   unfolding andThen
   bind-short e = bind-is e
 
--- what was got behind another reader was got from where that one ended
+-- a value from two readers in sequence: the first got one, and the second started where the first ended
 module _ {A B : Type 0} (p : Ask A) (k : A → Ask B) (s : List ℕ) (at : Place) where
   pub bind-parts : {b : B} {end : Place} → runAt (p >>= k) s at ≡ gotAt b end
       → (a : A) × (at′ : Place) × (runAt p s at ≡ gotAt a at′) × (runAt (k a) s at′ ≡ gotAt b end)
@@ -177,15 +175,7 @@ module _ {A B : Type 0} (p : Ask A) (k : A → Ask B) (s : List ℕ) (at : Place
       go (refusedAt n) f = absurd (let d = bind-refused p s at k f in let z : _≡_ {A = ℕ} 0 1 = cc in omega arith)
       go shortAt f = absurd (let d = bind-short p s at k f in let z : _≡_ {A = ℕ} 0 1 = cc in omega arith)
 
--- three in a row are the same either way
-pub bind-assoc : {A B C : Type 0} (p : Ask A) (k : A → Ask B) (g : B → Ask C) → p >>= k >>= g ≡ p >>= (λ a. k a >>= g)
-unfolding _>>=_
-bind-assoc (done a) k g = refl
-bind-assoc (stop n) k g = refl
-bind-assoc (ask q f) k g = ap (ask q) (fun-ext (λ v. bind-assoc (f v) k g))
-bind-assoc (seen f) k g = ap seen (fun-ext (λ l. bind-assoc (f l) k g))
-
--- a check that holds lets the reader go on where it is; one that does not refuses
+-- a check that holds reads nothing; one that fails refuses
 require-is : (b : Bool) (n : ℕ) {s : List ℕ} {at : Place} → In s at → runAt (require b n) s at ≡ cond b (gotAt tt at) (refusedAt n)
 unfolding require
 require-is true n h = runAt-done tt h
@@ -205,7 +195,7 @@ require-parts b n s at {end} h e = go b (sym (require-is b n h) ∙ e)
     go true f = (refl, cc)
     go false f = absurd (let z : _≡_ {A = ℕ} 0 1 = cc in omega arith)
 
--- ---- lists of what was read. What was read goes in front of what is still to be read.
+-- ---- lists of values: the values that were read go in front of those still to be read
 
 unfoldable pub behind : {A : Type 0} → List A → At (List A) → At (List A)
 behind xs (gotAt ys at) = gotAt (xs ++ ys) at
@@ -218,7 +208,7 @@ behind-nil (gotAt ys at) = refl
 behind-nil (refusedAt n) = refl
 behind-nil shortAt = refl
 
--- one part of a list, then the rest of it: the step of `many` and of `each`
+-- one part of a list, then the rest: the step of `many` and of `each`
 module _ {A B : Type 0} (p : Ask A) (put : A → List B) (q : Ask (List B)) (s : List ℕ) (xs : List B) (at : Place) where
   on : A → Ask (List B)
   on x = q >>= (λ rest. done (put x ++ rest))
@@ -267,7 +257,7 @@ module _ {A B : Type 0} (f : A → Ask (List B)) (s : List ℕ) (xs : List B) (a
     unfolding each on
     each-step e = step (f y) (λ l. l) (each f ys) s xs at e
 
--- ---- what a question's answer says
+-- ---- what an answer to a question for n bits says
 
 module _ (n : ℕ) (s : List ℕ) (at : Place) {v : ℕ} {p : Place} (e : runAt (bits n) s at ≡ gotAt v p) where
   found-bits : (j : ℕ) × (bitsAt s n 0 (position at) ≡ found v j) × (placeOf j ≡ p)
@@ -282,7 +272,7 @@ module _ (n : ℕ) (s : List ℕ) (at : Place) {v : ℕ} {p : Place} (e : runAt 
       go true t = at-answer (bitsAt s n 0 (position at)) refl (sym (runAt-ask (nextBits n) (inside-in s at t)) ∙ e)
       go false t = absurd (let d = runAt-out (ask (nextBits n) done) s at t in let z : _≡_ {A = ℕ} 0 1 = cc in omega arith)
 
-  -- n positions on, and below 2 ^ n
+  -- it ends n positions on, and the number is below 2 ^ n
   pub bits-on : position p ≡ position at + n
   bits-on = sym (ap position (found-bits .2)) ∙ place-position (found-bits .0) ∙ bits-moved s n (position at) (found-bits .1)
 

@@ -1,4 +1,4 @@
--- Numbers as bits and bits as bytes: how long they are, how they split, and that one undoes the other. Assumes nothing.
+-- Numbers as bits and bits as bytes: their lengths, how they split, and that each undoes the other. Assumes nothing.
 use Prim.Native.Nat.{ℕ, zero, suc, _+_, _*_, _/_, _%_, _^_, _<_}
 use native.Mathlib.Nat.{zero-add, add-zero, suc-add, mul-assoc, add-assoc, add-mul, mul-one, mod-one, mod-mod, mod-lt, div-one, pow-succ', div-eq-of-lt}
 use native.Mathlib.Numerals.{add-one, one-add}
@@ -49,7 +49,7 @@ unfolding row
 bits-row f [] h = tt
 bits-row f (x ∷ xs) h = bits-append (f x) (row f xs) (h x) (bits-row f xs h)
 
--- `Bits`, so that a use shows of which list
+-- `Bits` as a record, so that its type names the list
 pub record Binary (bs : List ℕ) : Type 0 where
   pub bits : Bits bs
 
@@ -73,7 +73,7 @@ bitsOf-split (suc m) n v =
     ap (λ k. bitsOf k v) (suc-add m n)
     ∙ ap₂ (λ b s. b % 2 ∷ s) (ap (λ k. v / 2 ^ k) (let e : m + n ≡ n + m = omega arith in e) ∙ sym (shr-shr v n m)) (bitsOf-split m n v)
 
--- the low bits are all that counts
+-- the w bits of a number depend on its remainder by 2 ^ w alone
 bitsOf-same : (w a b : ℕ) → a % 2 ^ w ≡ b % 2 ^ w → bitsOf w a ≡ bitsOf w b
 unfolding bitsOf
 bitsOf-same zero a b e = refl
@@ -108,7 +108,7 @@ unary-more m q =
     ap (λ z. z ++ (1 ∷ [])) (sym (replicate-append-replicate m q 0)) ∙ append-assoc (replicate m 0) (replicate q 0) (1 ∷ [])
     ∙ ap (λ z. z ++ (replicate q 0 ++ (1 ∷ []))) (sym (bitsOf-zero m))
 
--- ---- things in a row
+-- ---- the bits of a list's elements
 
 pub row-append : {A : Type 0} (f : A → List ℕ) (xs ys : List A) → row f (xs ++ ys) ≡ row f xs ++ row f ys
 unfolding row
@@ -116,11 +116,6 @@ row-append f [] ys = refl
 row-append f (x ∷ xs) ys = ap (λ s. f x ++ s) (row-append f xs ys) ∙ sym (append-assoc (f x) (row f xs) (row f ys))
 
 -- ---- the number that bits spell
-
-pub spelt-append : (acc : ℕ) (s t : List ℕ) → spelt acc (s ++ t) ≡ spelt (spelt acc s) t
-unfolding spelt
-spelt-append acc [] t = refl
-spelt-append acc (b ∷ s) t = spelt-append (acc * 2 + b) s t
 
 pub spelt-bitsOf : (acc w v : ℕ) → spelt acc (bitsOf w v) ≡ acc * 2 ^ w + v % 2 ^ w
 unfolding spelt bitsOf
@@ -131,7 +126,7 @@ spelt-bitsOf acc (suc w) v =
     spelt-bitsOf (acc * 2 + b) w v ∙ ap (λ x. x + v % 2 ^ w) (add-mul (acc * 2) b (2 ^ w)) ∙ add-assoc (acc * 2 * 2 ^ w) (b * 2 ^ w) (v % 2 ^ w)
     ∙ ap₂ (λ (x y : ℕ). x + y) (mul-assoc acc 2 (2 ^ w) ∙ ap (λ x. acc * x) (sym (pow-succ' 2 w))) (sym e)
 
--- the bits behind those that made `acc` are below it
+-- the bits that come after `acc` stand below it
 spelt-high : (acc : ℕ) (s : List ℕ) → Bits s → spelt acc s / 2 ^ length s ≡ acc
 unfolding spelt
 spelt-high acc [] h = div-one acc
@@ -164,7 +159,7 @@ pub length-packed : (s : List ℕ) → length (packed s) ≡ length s / 8
 unfolding packed
 length-packed s = length-bytesOf (length s / 8) s
 
--- eight bits are a byte's, and make it again
+-- eight bits make a byte with these bits
 byte-back : (s : List ℕ) → Bits s → length s ≡ 8 → bitsOfByte (spelt 0 s) ≡ s
 byte-back s h e = bitsOfByte-is (spelt 0 s) ∙ ap (λ k. bitsOf k (spelt 0 s)) (sym e) ∙ bitsOf-spelt 0 s h
 

@@ -1,4 +1,4 @@
--- Tests in a row, as the definition writes its tables. Assumes nothing.
+-- Chains of tests, `if .. else if ..`, as the definition writes its tables. Assumes nothing.
 use Prim.Native.Nat.{ℕ, zero, suc}
 use native.Mathlib.Omega.{arith}
 use mathlib.Core.Path.{_≡_, refl}
@@ -6,20 +6,20 @@ use mathlib.Core.Bool.{Bool, true, false, cond}
 use mathlib.Core.List.{List, [], _∷_}
 use borrow.Author.Tests.{lt-ltb, le-ltb, le-leb, lt-leb, eq-eqb, ne-eqb, ltb-true, ltb-false, leb-true, leb-false, eqb-true, eqb-false}
 
--- arithmetic that reads and proves tests
+-- arithmetic that uses and proves tests
 pub ruleset tested = (arith, lt-ltb, le-ltb, le-leb, lt-leb, eq-eqb, ne-eqb, ltb-true, ltb-false, leb-true, leb-false, eqb-true, eqb-false)
 
--- what holds of both branches holds of the one taken
+-- what holds of both branches holds of the branch that is taken
 pub by-test : {A : Type 0} (P : A → Type 0) (b : Bool) (x y : A) → (b ≡ true → P x) → (b ≡ false → P y) → P (cond b x y)
 by-test P true x y h g = h refl
 by-test P false x y h g = g refl
 
--- the first whose test holds, else the last
+-- the value of the first test that holds, else z
 abbrev pub ladder : {A : Type 0} → List (Bool × A) → A → A
 ladder [] z = z
 ladder (t ∷ ts) z = cond (t .0) (t .1) (ladder ts z)
 
--- the tests up to rung k: it is the first that holds
+-- test k is the first that holds
 abbrev pub Taken : {A : Type 0} → ℕ → List (Bool × A) → Type 0
 Taken k [] = ⊥
 Taken zero (t ∷ ts) = t .0 ≡ true

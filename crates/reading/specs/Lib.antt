@@ -1,4 +1,4 @@
--- What a reader of a bit format is, and what it gets of an input. Nothing here knows of FLAC.
+-- Readers of a bit format: what a reader is, and what it gets from an input. Nothing here is about FLAC.
 pub mod Reading
 pub mod Bytes
 pub mod Places

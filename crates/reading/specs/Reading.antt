@@ -1,17 +1,17 @@
--- A reader is a tree of questions to the input, and its run on a list of bits. A reader can do nothing but ask, look at
--- the bits that it has passed, be done, or stop: so what it answers is settled by the bits that it passed, whatever the
--- format (proofs/Prefix.antt).
+-- A reader is a tree of questions to the input; here are the trees, and their runs on a list of bits. A reader can only
+-- ask a question, look at the bits that it has read, finish, or refuse. So its answer depends on the bits that it has
+-- read and on nothing else, whatever the format (proofs/Prefix.antt).
 use Prim.Native.Nat.{ℕ, zero, suc, _+_, _*_}
 use mathlib.Core.Bool.{Bool, cond}
 use mathlib.Core.List.{List, [], _∷_, _++_}
 use lib.ListN.{take, drop}
 
--- The next n bits as a number, or the zeros before the next one, which is passed too.
+-- The next n bits as a number, or how many zeros come before the next one bit. That one bit is read too.
 pub data Question : Type 0 where
   nextBits : ℕ → Question
   nextZeros : Question
 
--- `stop` refuses, by a number; `seen` hands on the bits that were passed.
+-- `stop` refuses, with a number. `seen` hands over all bits that were read so far.
 pub data Ask (A : Type 0) : Type 0 where
   done : A → Ask A
   stop : ℕ → Ask A
@@ -23,7 +23,7 @@ pub data Ask (A : Type 0) : Type 0 where
 infixl 10 _>>=_
 infixl 10 _>>_
 infixr 5 if_then_else_
--- one reader, then another that may use what the first got
+-- one reader, then another that may use the first one's value
 unfoldable pub _>>=_ : {A B : Type 0} → Ask A → (A → Ask B) → Ask B
 done a >>= k = k a
 stop n >>= k = stop n
@@ -42,11 +42,11 @@ bits n = ask (nextBits n) done
 unfoldable pub zeros : Ask ℕ
 zeros = ask nextZeros done
 
--- all bits so far
+-- all bits that were read so far
 unfoldable pub passed : Ask (List ℕ)
 passed = seen done
 
--- on, or a refusal
+-- go on if the test holds, else refuse with number n
 unfoldable pub require : Bool → ℕ → Ask (Unit {0})
 require b n = if b then done tt else stop n
 
@@ -58,7 +58,7 @@ many (suc n) p = do
   rest ← many n p
   done (a ∷ rest)
 
--- a reader for each of some things in turn; what they get, joined
+-- a reader for each element in turn; the lists that they get, one after the other
 unfoldable pub each : {A B : Type 0} → (A → Ask (List B)) → List A → Ask (List B)
 each f [] = done []
 each f (x ∷ xs) = do
@@ -68,18 +68,18 @@ each f (x ∷ xs) = do
 
 -- ---- how they run
 
--- a number and the position behind it, or that the input ends first
+-- a number and the position after it, or the input ends first
 pub data Answer : Type 0 where
   found : ℕ → ℕ → Answer
   cut : Answer
 
--- n more bits behind those that made `acc`, at position i; the list is the input from there
+-- n more bits, after those that make the number `acc`; i is the position, and the list is the input from there
 unfoldable pub bitsFrom : ℕ → ℕ → ℕ → List ℕ → Answer
 bitsFrom zero acc i s = found acc i
 bitsFrom (suc n) acc i [] = cut
 bitsFrom (suc n) acc i (b ∷ s) = bitsFrom n (acc * 2 + b) (suc i) s
 
--- the zeros behind those z that were counted
+-- the zeros up to the next one bit, with z counted already
 unfoldable pub zerosFrom : ℕ → ℕ → List ℕ → Answer
 zerosFrom z i [] = cut
 zerosFrom z i (zero ∷ s) = zerosFrom (suc z) (suc i) s
@@ -89,7 +89,7 @@ unfoldable pub answer : Question → List ℕ → ℕ → Answer
 answer (nextBits n) s i = bitsFrom n zero i (drop i s)
 answer nextZeros s i = zerosFrom zero i (drop i s)
 
--- a value and the position behind what was read; a refusal and the position behind what was read for it; cut short
+-- a value and the position where the run ended; a refusal and that position; or the input was too short
 pub data Got (A : Type 0) : Type 0 where
   got : A → ℕ → Got A
   refused : ℕ → ℕ → Got A

@@ -1,4 +1,4 @@
--- What the settings that a frame can be written with say, fact by fact. Assumes nothing.
+-- Allowed settings: each fact that `allowed` tests. Assumes nothing.
 use Prim.Native.Nat.{ℕ, _*_, _≤_, _<_}
 use native.Mathlib.Omega.{arith}
 use mathlib.Core.Path.{_≡_, refl, sym, subst}
@@ -11,7 +11,7 @@ use Rattle.rfc9639.specs.declared.FrameSetting.{FrameSetting}
 use Rattle.rfc9639.specs.Header.{assignment, channelCount, bitDepth}
 use Rattle.rfc9639.specs.Write.{bitsCode, writable, numberLimit, allowed}
 
--- the bits of a sample, and their code
+-- a bit depth that the writer writes, and its code
 pub record Depth (b : ℕ) : Type 0 where
   pub code : bitsCode b < 8
   pub read : bitDepth (bitsCode b) ≡ done b

@@ -1,4 +1,4 @@
--- A frame's length, and that it is within the bound, whatever the settings and the samples are. Assumes nothing.
+-- The length bound: a frame's length, and that it is within the bound for all settings and samples. Assumes nothing.
 use Prim.Native.Nat.{ℕ, zero, suc, _+_, _-_, _*_, _/_, _%_, _≤_}
 use native.Mathlib.Nat.{mul-le-mul-right}
 use native.Mathlib.Omega.{arith}
@@ -26,7 +26,7 @@ use Rattle.rfc9639.proofs.Computing.{computedWrite}
 
 -- ---- the header
 
--- n bytes behind the first
+-- n bytes follow the first
 pub length-followers : (n v : ℕ) → length (followers n v) ≡ n
 unfolding followers
 length-followers zero v = refl
@@ -43,7 +43,7 @@ number-at-most v =
     (λ _. by-test P (ltb v 0x400_0000) _ _ (λ _. omega arith)
     (λ _. by-test P (ltb v 0x8000_0000) _ _ (λ _. omega arith) (λ _. omega arith))))))
 
--- no bytes, one or two
+-- the block size takes whole bytes, two at most
 size-bytes : (n : ℕ) → (length (sizeBits n) ≡ 8 * (length (sizeBits n) / 8)) × (length (sizeBits n) ≤ 16)
 unfolding sizeBits bitsOf
 size-bytes n =
@@ -70,7 +70,7 @@ pub length-header : (set : FrameSetting) → length (headerBits set) ≡ length 
 unfolding headerBits
 length-header set = let fields = fieldBits set in omega (arith, length-append fields (bitsOf 8 (crc8 fields)), length-bitsOf 8 (crc8 fields))
 
--- whole bytes
+-- fields and header are whole bytes
 pub fields-whole : (set : FrameSetting) → length (fieldBits set) ≡ 8 * (length (fieldBits set) / 8)
 fields-whole set = omega (arith, length-fields set, size-bytes (set .size))
 
@@ -104,7 +104,7 @@ unfolding padded padding
 length-padded s =
     omega (arith, length-append s (replicate ((8 - length s % 8) % 8) 0), length-replicate {A = ℕ} ((8 - length s % 8) % 8) 0)
 
--- so many bytes as hold the header and the subframes, and two
+-- the bytes that hold the header and the subframes, and two for the CRC-16
 pub length-frame : (set : FrameSetting) (xs : List ℤ) → length (frameBytes set xs) ≡ (length (headerBits set ++ subframesBits set xs) + 7) / 8 + 2
 unfolding frameBytes frameBits footed
 length-frame set xs =
@@ -124,7 +124,7 @@ within-bound set xs =
       subframes-at-most (set .bits) (set .size) xs ls,
     )
 
--- ---- document 01's bound checks
+-- ---- the two bounds that document 01 gives
 
 pub record BoundChecks : Type 0 where
   -- one 16-bit channel, block 1

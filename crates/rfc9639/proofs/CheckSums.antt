@@ -1,4 +1,4 @@
--- A check sum of w bits stays one, over the width and the polynomial; and so the two of the format. Assumes nothing.
+-- Check sums: a CRC of w bits fits w bits, for any polynomial below 2 ^ w; and the two of the format. Assumes nothing.
 use Prim.Native.Nat.{ℕ, _+_, _-_, _*_, _/_, _%_, _^_, _<_}
 use native.Mathlib.Nat.{mod-lt}
 use mathlib.Core.Bool.{Bool, true, false}

@@ -1,5 +1,4 @@
--- The writer's choice: none of the candidates has fewer bits, and of those with as few the first is taken. Assumes
--- nothing.
+-- The writer's choice: it takes the first candidate with the fewest bits. Assumes nothing.
 use Prim.Native.Nat.{ℕ, _≤_, _<_, min}
 use native.Mathlib.Omega.{arith}
 use mathlib.Core.Path.{_≡_, refl, ap, sym, _∙_, subst}
@@ -15,7 +14,7 @@ use Rattle.rfc9639.specs.declared.Candidate.the-variants.{Constant, Verb
 use Rattle.rfc9639.specs.Coding.{uniform, counting, fixedOnes, candidates, fewestOf, fewest, cost, chosen}
 use Rattle.rfc9639.proofs.Listing.{counted}
 
--- c is of the list; all before it count more, and none behind it counts less
+-- c is in the list; each element before it counts more, and none after it counts less
 pub record Fewest {A : Type 0} (count : A → ℕ) (c : A) (cs : List A) : Type 0 where
   pub before : List A
   pub after : List A
@@ -28,7 +27,7 @@ every-at P [] y ys e = e .0
 every-at P (x ∷ xs) y ys e = every-at P xs y ys (e .1)
 
 module _ {A : Type 0} (count : A → ℕ) where
-  -- one candidate more
+  -- one more element
   extended : (best c : A) (seen : List A) → Fewest count best seen → Fewest count (cond (ltb (count c) (count best)) c best) (seen ++ (c ∷ []))
   extended best c seen f = go (ltb (count c) (count best)) refl
     where
@@ -62,13 +61,13 @@ module _ {A : Type 0} (count : A → ℕ) where
       subst (Fewest count (fewestOf count (cond (ltb (count c) (count best)) c best) cs)) (append-assoc seen (c ∷ []) cs)
       (fewestOf-is (cond (ltb (count c) (count best)) c best) (seen ++ (c ∷ [])) cs (extended best c seen f))
 
-  -- a choice goes on where it was
+  -- to choose from two lists is to choose from the first, then from the second
   pub fewestOf-append : (best : A) (cs ds : List A) → fewestOf count best (cs ++ ds) ≡ fewestOf count (fewestOf count best cs) ds
   unfolding fewestOf
   fewestOf-append best [] ds = refl
   fewestOf-append best (c ∷ cs) ds = fewestOf-append (cond (ltb (count c) (count best)) c best) cs ds
 
--- none of the list counts less
+-- no element counts less
 pub at-most : {A : Type 0} (count : A → ℕ) (c d : A) (before after : List A) → Fewest count c (before ++ d ∷ after) → count c ≤ count d
 at-most count c d before after f =
     every-at (λ e. count c ≤ count e) before d after
@@ -81,7 +80,7 @@ fewest-is count c cs = fewestOf-is count c (c ∷ []) cs (record { before = []; 
 
 -- ---- the candidates of a channel
 
--- what is open to a channel
+-- what makes a candidate one of the channel's
 pub data Open (xs : List ℤ) : Candidate → Type 0 where
   constant : uniform xs ≡ true → Open xs Constant
   verbatim : Open xs Verbatim
@@ -118,13 +117,13 @@ module _ (xs : List ℤ) where
       go true e = (constant e, tt)
       go false e = tt
 
-  -- what is chosen is open
+  -- what is chosen is a candidate of the channel
   pub chosen-open : (w : ℕ) → Open xs (chosen w xs)
   chosen-open w =
       let f = chosen-fewest w xs in
       every-at (Open xs) (f .before) (chosen w xs) (f .after) (subst (Every (Open xs)) (f .there) candidates-open)
 
-  -- verbatim is always a candidate, so nothing longer is chosen
+  -- verbatim is always a candidate, so the chosen one is no longer
   pub chosen-at-most-verbatim : (w : ℕ) → cost w xs (chosen w xs) ≤ cost w xs Verbatim
   unfolding candidates
   chosen-at-most-verbatim w =

@@ -1,4 +1,4 @@
--- How the examples are written, and the one list of what they compute with. Assumes nothing.
+-- Examples: how their numbers are written, and the list of all definitions that they unfold. Assumes nothing.
 use Prim.Native.Nat.{ℕ, zero, suc, _/_, _%_, _^_}
 use mathlib.Core.List.{List, [], _∷_}
 use lib.IntN.{ℤ, pos, negℤ}
@@ -20,7 +20,7 @@ use Rattle.rfc9639.specs.Coding.{fold, riceBits, residualBits, residuals
 use Rattle.rfc9639.specs.Write.{Written, sizeCode, sizeBits, bitsCode, followers, numberBytes, codeBits, fieldBits, headerBits, laneOf, lanes, laneWidth, midOf, sideOf, channel, stored, laneBits, subframesBits, padded, footed, frameBits, frameBytes, mostBits, frameBound, writable, numberLimit, allowed, fits, allFit, unwritten, write}
 use Rattle.rfc9639.specs.Read.{Outcome, refusal, accepted, untouched, zeroed, cutShort, begun, finished, resultOf, result, read}
 
--- the n bytes of a number, as a dump shows them
+-- the n bytes of a number, highest first, as a hex dump shows them
 abbrev pub hex : ℕ → ℕ → List ℕ
 hex zero v = []
 hex (suc n) v = v / 256 ^ n % 256 ∷ hex n v
@@ -28,12 +28,12 @@ hex (suc n) v = v / 256 ^ n % 256 ∷ hex n v
 abbrev pub minus : ℕ → ℤ
 minus n = negℤ (pos n)
 
--- to unfold this is to unfold the whole definition
+-- to unfold this is to unfold the whole definition of reading
 unfoldable pub computed : List ℕ → List ℤ → Outcome
 unfolding _>>=_ bits zeros passed require many each bitsFrom zerosFrom answer follow run bitsOfByte bitsOfBytes runAt inside toAt crcBit crcBits crc8 crc16 signed low wrapped shiftDown shiftUp sample followed numberFrom codedNumber assignment bitDepth blockSize rateBits timeOf sync sizeAndRate depthAndZero channelsAndBits codes blockTime headerSum headerBehind header channelCount sampleCount firstSample unfolded folded rice coded partition partitionSizes residual dot predicted restored predict fixedCoefficients subframeType wastedBits wastedJudged kindAndWasted subframeHeader orderOf fixed quantization lpcBehind lpc samples subframeBehind subframe rightOf leftOf doubled leftOfMid rightOfMid pairwise joined opening widths padding footer body frame refusal accepted untouched zeroed cutShort begun finished resultOf result read
 computed s b = read s b
 
--- and this the writer's
+-- and this, of writing
 unfoldable pub computedWrite : FrameSetting → List ℤ → List ℕ → Written
 unfolding computed bitsOf unary row spelt bytesOf packed fold riceBits residualBits residuals fixedResiduals plain subframeHead codedAs same uniform counting fixedOnes candidates fewestOf fewest cost chosen subframeBits sizeCode sizeBits bitsCode followers numberBytes codeBits fieldBits headerBits laneOf lanes laneWidth midOf sideOf channel stored laneBits subframesBits padded footed frameBits frameBytes mostBits frameBound writable numberLimit allowed fits allFit unwritten write
 computedWrite set xs out = write set xs out

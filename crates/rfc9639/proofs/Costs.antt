@@ -1,4 +1,4 @@
--- How many bits each candidate has. Assumes nothing.
+-- Costs: how many bits each candidate has. Assumes nothing.
 use Prim.Native.Nat.{ℕ, suc, _+_, _*_, _/_, _^_, _≤_}
 use native.Mathlib.Nat.{zero-mul, suc-mul}
 use native.Mathlib.Omega.{arith}
@@ -21,7 +21,7 @@ length-plain w (x ∷ xs) =
     length-append (bitsOf w (low w x)) (plain w xs) ∙ ap₂ (λ (m n : ℕ). m + n) (length-bitsOf w (low w x)) (length-plain w xs)
     ∙ (let e : w + length xs * w ≡ suc (length xs) * w = omega (arith, suc-mul (length xs) w) in e)
 
--- the quotients of residuals, which are in unary
+-- the sum of the residuals' quotients, which are stored in unary
 abbrev pub quotients : ℕ → List ℤ → ℕ
 quotients k = total (λ r. fold r / 2 ^ k)
 

@@ -1,4 +1,4 @@
--- How many samples and residuals the writer stores. Assumes nothing.
+-- Lengths: how many samples and residuals the writer stores. Assumes nothing.
 use Prim.Native.Nat.{ℕ, suc, _-_, _*_, _≤_, min}
 use native.Mathlib.Nat.{zero-min, min-zero, suc-min-suc}
 use native.Mathlib.Omega.{arith}
@@ -32,7 +32,7 @@ pub length-channel : (n : ℕ) (xs : List ℤ) (c : ℕ) → length (channel n x
 unfolding channel
 length-channel n xs c = length-take n (drop (c * n) xs) ∙ ap (min n) (length-drop (c * n) xs)
 
--- a lane stores n samples at most
+-- a lane stores at most n samples
 pub stored-at-most : (n : ℕ) (xs : List ℤ) (lane : Lane) → length (stored n xs lane) ≤ n
 unfolding stored
 stored-at-most n xs (Channel c) = omega (arith, length-channel n xs c)

@@ -1,5 +1,5 @@
--- Laws of the definition: widths and what the machine makes of them, sums and lengths, the choice, the bound; and what it
--- computes: the examples that document 01 marks, published frames, the order of the checks.
+-- Laws of the definition: widths, machine integers, check sums, lengths, the writer's choice, the length bound. And
+-- what it computes: the examples that document 01 marks (P), published frames, the order of the checks.
 pub mod CheckSums
 pub mod Widths
 pub mod Magnitudes

@@ -1,5 +1,4 @@
--- Lists of the definition, by place: numbers in a row, the channels of an assignment and the lanes that store them, pairs of
--- samples. Assumes nothing.
+-- Lists of the definition: consecutive numbers, channels and their lanes, pairs of samples. Assumes nothing.
 use Prim.Native.Nat.{ℕ, zero, suc, _+_, _≤_, _<_}
 use native.Mathlib.Nat.{add-zero, zero-add}
 use native.Mathlib.Numerals.{add-one}
@@ -22,9 +21,9 @@ use Rattle.rfc9639.specs.Frame.{widths}
 use Rattle.rfc9639.specs.Coding.{counting}
 use Rattle.rfc9639.specs.Write.{laneOf, lanes, laneWidth}
 
--- ---- numbers in a row
+-- ---- consecutive numbers
 
--- each number of a row is of the row
+-- what holds of all numbers below a + n holds of the n numbers from a up
 pub counted : (P : ℕ → Type 0) (a n : ℕ) → ((i : ℕ) → i < a + n → P i) → Every P (counting a n)
 unfolding counting
 counted P a zero f = tt
@@ -46,7 +45,7 @@ unfolding counting
 counting-last a zero = ap (λ k. k ∷ []) (sym (add-zero a))
 counting-last a (suc n) = ap (λ l. a ∷ l) (counting-last (suc a) n ∙ ap (λ k. counting (suc a) n ++ (k ∷ [])) (let e : suc a + n ≡ a + suc n = omega arith in e))
 
--- what a function gives for them: for one more, and at a place
+-- a function mapped over them: one more, and by index
 pub map-counting-last : {A : Type 0} (f : ℕ → A) (n : ℕ) → map f (counting 0 (n + 1)) ≡ map f (counting 0 n) ++ (f n ∷ [])
 map-counting-last f n =
     ap (map f) (ap (counting 0) (add-one n) ∙ counting-last 0 n ∙ ap (λ k. counting 0 n ++ (k ∷ [])) (zero-add n)) ∙ map-append f (counting 0 n) (n ∷ [])
@@ -94,7 +93,7 @@ unfolding laneWidth laneOf counting
 widths-independent k b a zero = refl
 widths-independent k b a (suc n) = ap (λ ws. b ∷ ws) (widths-independent k b (suc a) n)
 
--- the widths that the reader reads by are those of the lanes
+-- the widths that the reader uses are those of the lanes
 pub widths-lanes : (a : ChannelAssignment) (b : ℕ) → widths a b ≡ map (laneWidth b) (lanes a)
 unfolding widths lanes channelCount laneWidth laneOf counting
 widths-lanes (Independent k) b = widths-independent k b 0 k
@@ -102,7 +101,7 @@ widths-lanes LeftSide b = refl
 widths-lanes SideRight b = refl
 widths-lanes MidSide b = refl
 
--- ---- pairs of which one is kept
+-- ---- pairs of samples of which one is kept
 
 pub pairwise-first : (xs ys : List ℤ) → length xs ≤ length ys → pairwise (λ x y. x) xs ys ≡ xs
 unfolding pairwise

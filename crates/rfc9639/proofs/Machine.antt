@@ -1,4 +1,4 @@
--- What the machine's signed operations come to in the definition's words, once over the width. Assumes nothing.
+-- Machine integers: the machine's signed operations in the definition's words, for every width. Assumes nothing.
 use Prim.Native.Nat.{ℕ, zero, suc, _+_, _-_, _*_, _/_, _%_, _^_, _<_}
 use native.Mathlib.Nat.{zero-add, mod-lt, mod-self, mul-mod-left, mul-right-comm, suc-mul, add-mul, mul-lt-mul-of-pos-right, mul-le-mul-right}
 use native.Mathlib.Omega.{arith}
@@ -18,7 +18,7 @@ use Rattle.rfc9639.specs.Integers.{signed, wrapped, shiftDown}
 use Rattle.rfc9639.proofs.Widths as Wide
 use Rattle.rfc9639.proofs.Widths.{Alike, low-of, alike-narrow, of-sfits, to-sfits, shiftDown-fits}
 
--- bits that are read as signed
+-- a word of w bits, as a signed value
 pub toZ-signed : (w : Width) (n : ℕ) → toZ w n ≡ signed (bits w) n
 unfolding signed
 toZ-signed w n = go (ltb n (2 ^ hbits w)) refl
@@ -27,7 +27,7 @@ toZ-signed w n = go (ltb n (2 ^ hbits w)) refl
     go true e = rw (lt-ltb (n * 2) (2 ^ bits w) (omega (arith, ltb-true n (2 ^ hbits w) e, pow-bits w)))
     go false e = rw (le-ltb (n * 2) (2 ^ bits w) (omega (arith, ltb-false n (2 ^ hbits w) e, pow-bits w)))
 
--- the bits of a signed number
+-- the word of a signed value has its bits
 pub ofZ-alike : {w : Width} {z : ℤ} → SFits w z → Alike (bits w) z (ofZ w z)
 ofZ-alike {w} {z = pos n} h = record { modulo = refl }
 ofZ-alike {w} {z = negsuc n} h = record {
@@ -44,7 +44,7 @@ shift-shr k (negsuc n) = refl
 pub shifted : {w : Width} {z : ℤ} → SFits w z → (k : ℕ) → toZ w (ofZ w (shrZ (toZ w (ofZ w z)) (2 ^ k))) ≡ shiftDown k z
 shifted {w} {z} f k = rw (toZ-ofZ f, shift-shr k z) (toZ-ofZ (to-sfits (shiftDown-fits (of-sfits f) k)))
 
--- Up by k and down by k again: the bits above the low w go out, and the sign bit is copied into their places.
+-- Sign extension by two shifts, up by k and down by k: the bits above the low w become copies of the sign bit.
 module _ (w k : ℕ) where
   up : (b : ℕ) → (b * 2 ^ k) % 2 ^ (w + k) ≡ b % 2 ^ w * 2 ^ k
   up b =
@@ -80,7 +80,7 @@ module _ (w k : ℕ) where
       subst (λ n. shiftDown k (signed n ((b * 2 ^ k) % 2 ^ n)) ≡ signed w (b % 2 ^ w)) e
       (ap (λ x. shiftDown k (signed (w + k) x)) (up b) ∙ down (b % 2 ^ w) (mod-lt b (pow-pos w)))
 
--- the low 32 bits of a number of 64
+-- the low 32 bits of a 64-bit number, signed
 pub up-and-down-32 : {z : ℤ} → SFits w64 z → shrZ (toZ w64 ((ofZ w64 z * 2 ^ 32) % 2 ^ 64)) (2 ^ 32) ≡ wrapped 32 z
 unfolding wrapped
 up-and-down-32 {z} f =

@@ -1,4 +1,4 @@
--- A number's size without its sign, of sums, products and shifts. Assumes nothing.
+-- Absolute values: of sums, products and shifts, and of numbers that fit a width. Assumes nothing.
 use Prim.Native.Nat.{ℕ, zero, suc, _+_, _-_, _*_, _^_, _≤_, _<_}
 use native.Mathlib.Nat.{le-refl, le-of-lt, lt-of-le-of-lt, div-le-self}
 use native.Mathlib.Omega.{arith}

@@ -1,4 +1,4 @@
--- The cases that document 01 marks (P), under one claim. Assumes nothing.
+-- The cases that document 01 marks (P). Assumes nothing.
 use Prim.Native.Nat.{ℕ, _^_, _<_}
 use native.Mathlib.Omega.{arith}
 use mathlib.Core.Path.{_≡_, refl}
@@ -25,7 +25,7 @@ pub record Marked : Type 0 where
   pub width-4 : signed 4 5 ≡ pos 5
   -- folded residuals
   pub unfolds : map unfolded (1 ∷ 2 ∷ 3 ∷ 4 ∷ []) ≡ minus 1 ∷ pos 1 ∷ minus 2 ∷ pos 2 ∷ []
-  -- method 1, parameter 30, quotient 4: the remainder alone, whatever it is; and such a partition, remainder 6314
+  -- method 1, parameter 30, quotient 4: only the remainder is left; and such a partition with the remainder 6314
   pub remainder-alone : (r : ℕ) → r < 2 ^ 30 → folded 30 4 r ≡ r
   pub remainder-read : runAt (partition 1 1) (hex 5 0xf0_4000_18aa) (placeOf 0) ≡ gotAt (pos 3157 ∷ []) (placeOf 40)
   -- fixed prediction of order 2

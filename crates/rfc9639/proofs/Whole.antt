@@ -1,4 +1,4 @@
--- What the writer puts down are bits, whole bytes of them, and the frame's bytes have just these bits. Assumes nothing.
+-- The frame's bits: all that the writer writes is bits, and the frame's bytes have just these bits. Assumes nothing.
 use Prim.Native.Nat.{ℕ, _+_, _-_, _*_, _/_, _^_}
 use native.Mathlib.Omega.{arith}
 use mathlib.Core.Path.{_≡_}

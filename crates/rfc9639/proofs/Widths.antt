@@ -1,4 +1,4 @@
--- Numbers of w bits: what fits a width, and which bits a number has, each law once over the width. Assumes nothing.
+-- Integers of w bits: which integers fit a width, and which low bits they have, for every width. Assumes nothing.
 use Prim.Native.Nat.{ℕ, zero, suc, _+_, _-_, _*_, _/_, _%_, _^_, _≤_, _<_}
 use native.Mathlib.Nat.{lt-of-le-of-lt, lt-of-lt-of-le, mod-lt, mod-eq-of-lt, mod-mod, mod-self, zero-mod, mod-eq-sub-mod, mod-add-mod, add-mod, add-comm, add-mul-mod-self-right, mul-add-mod-self-right, mul-suc, mul-assoc, mul-comm, add-mul, zero-mul, div-add-mod', div-le-self, div-eq-of-lt, pow-suc, mul-mod-left, mul-pos, mul-lt-mul-of-pos-right, mul-le-mul-right}
 use native.Mathlib.Omega.{arith}
@@ -16,7 +16,7 @@ use Rattle.rfc9639.specs.Integers.{signed, low, wrapped, shiftDown, shif
 
 -- ---- remainders
 
--- a summand is cancelled
+-- equal summands cancel
 cancel : (m a b c : ℕ) → zero < m → (a + c) % m ≡ (b + c) % m → a % m ≡ b % m
 cancel m a b c h e =
     sym (back a) ∙ sym (mod-add-mod (a + c) m (c * (m - 1))) ∙ ap (λ x. (x + c * (m - 1)) % m) e ∙ mod-add-mod (b + c) m (c * (m - 1)) ∙ back b
@@ -27,7 +27,7 @@ cancel m a b c h e =
     back : (k : ℕ) → (k + c + c * (m - 1)) % m ≡ k % m
     back k = ap (λ x. x % m) (let f : k + c + c * (m - 1) ≡ k + c * m = omega (arith, whole) in f) ∙ add-mul-mod-self-right k c m
 
--- of a product, that of a factor is enough
+-- a product's remainder, by the remainder of a factor
 scaled : (m x k : ℕ) → (x * k) % m ≡ (x % m * k) % m
 scaled m x k = ap (λ y. y % m) (sym whole) ∙ mul-add-mod-self-right (x / m * k) m (x % m * k)
   where
@@ -36,7 +36,7 @@ scaled m x k = ap (λ y. y % m) (sym whole) ∙ mul-add-mod-self-right (x / m * 
         ap (λ y. y + x % m * k) (mul-assoc (x / m) k m ∙ ap (λ y. x / m * y) (mul-comm k m) ∙ sym (mul-assoc (x / m) m k))
         ∙ sym (add-mul (x / m * m) (x % m) k) ∙ ap (λ y. y * k) (div-add-mod' x m)
 
--- a positive number below twice m that leaves nothing is m
+-- the only positive multiple of m below 2 m is m
 once : (m t : ℕ) → zero < t → t < m + m → t % m ≡ 0 → t ≡ m
 once m t p h e = go (ltb t m) refl
   where
@@ -44,7 +44,7 @@ once m t p h e = go (ltb t m) refl
     go true f = let l = ltb-true t m f in omega (arith, mod-eq-of-lt l)
     go false f = let l = ltb-false t m f in omega (arith, mod-eq-sub-mod l, mod-eq-of-lt {n = t - m} {m = m} (omega arith))
 
--- ---- a natural number in the place of an integer, but for a multiple of m
+-- ---- a natural number x equal to an integer z modulo m
 
 abbrev Modulo : ℕ → ℤ → ℕ → Type 0
 Modulo m (pos n) x = x % m ≡ n % m
@@ -91,9 +91,9 @@ module _ (m : ℕ) (h : zero < m) where
   modulo-mod (pos n) x p = mod-mod x m ∙ p
   modulo-mod (negsuc n) x p = mod-add-mod x m (suc n) ∙ p
 
--- ---- which bits a number has
+-- ---- the low bits of an integer
 
--- z is x, but for a multiple of 2 ^ w
+-- z equals x modulo 2 ^ w
 pub record Alike (w : ℕ) (z : ℤ) (x : ℕ) : Type 0 where
   pub modulo : Modulo (2 ^ w) z x
 
@@ -135,14 +135,14 @@ module _ (w : ℕ) where
   pub alike-mul : {z : ℤ} {x : ℕ} → Alike w z x → (k : ℕ) → Alike w (z *ℤ pos k) (x * k)
   alike-mul {z} {x} p k = record { modulo = modulo-mul (2 ^ w) (pow-pos w) z x k (p .modulo) }
 
-  -- the low bits of a sum and of a multiple are settled by those of the parts
+  -- the low bits of a sum and of a multiple, by the low bits of the parts
   pub low-add : (a b : ℤ) → low w (a +ℤ b) ≡ (low w a + low w b) % 2 ^ w
   low-add a b = sym (low-of (alike-add (low-alike a) (low-alike b)))
 
   pub low-mul : (z : ℤ) (k : ℕ) → low w (z *ℤ pos k) ≡ (low w z * k) % 2 ^ w
   low-mul z k = sym (low-of (alike-mul (low-alike z) k))
 
-  -- the bits that spell a number are its bits
+  -- the value of w bits has these low bits
   pub low-signed : (v : ℕ) → v < 2 ^ w → low w (signed w v) ≡ v
   unfolding signed low
   low-signed v h = go (ltb (v * 2) (2 ^ w)) refl
@@ -162,7 +162,7 @@ module _ (w : ℕ) where
   pub wrapped-wrapped : (z : ℤ) → wrapped w (wrapped w z) ≡ wrapped w z
   wrapped-wrapped z = wrapped-of (wrapped w z) z (low-wrapped z)
 
-  -- a sum is known by the low bits of its parts
+  -- a sum's low bits depend only on the low bits of its parts
   pub low-add-of : (a a′ b b′ : ℤ) → low w a ≡ low w a′ → low w b ≡ low w b′ → low w (a +ℤ b) ≡ low w (a′ +ℤ b′)
   low-add-of a a′ b b′ p q = low-add a b ∙ ap₂ (λ x y. (x + y) % 2 ^ w) p q ∙ sym (low-add a′ b′)
 
@@ -200,11 +200,11 @@ to-sfits {w} {z} h = record { sfits = subst (λ n. mag z < 2 ^ n) (let e : bits 
 pub fits-mono : {w w′ : ℕ} {z : ℤ} → w ≤ w′ → Fits w z → Fits w′ z
 fits-mono {w} {w′} h f = record { fits = lt-of-lt-of-le (f .fits) (pow-mono {i = w - 1} {j = w′ - 1} (omega arith)) }
 
--- twice the power before, from width 1 on
+-- 2 ^ w is twice the power before it
 pub pow-double : (w : ℕ) → 1 ≤ w → 2 ^ w ≡ 2 ^ (w - 1) * 2
 pow-double w h = ap (λ n. 2 ^ n) (let e : w ≡ suc (w - 1) = omega arith in e) ∙ pow-suc 2 (w - 1)
 
--- at a width of one bit more
+-- the same for a width of one bit more
 pub pow-more : (w : ℕ) → 1 ≤ w → 2 ^ (w + 1 - 1) ≡ 2 ^ (w - 1) * 2
 pow-more w h = ap (λ n. 2 ^ n) (let e : w + 1 - 1 ≡ w = omega arith in e) ∙ pow-double w h
 
@@ -236,7 +236,7 @@ wrapped-same w (negsuc n) h f =
     let e : n % 2 ^ w ≡ n = mod-eq-of-lt (omega (arith, f .fits, k)) in
     rw e (rw (le-ltb ((2 ^ w - suc n) * 2) (2 ^ w) (omega (arith, f .fits, k))) (ap negsuc (let g : 2 ^ w - suc (2 ^ w - suc n) ≡ n = omega (arith, f .fits, k) in g)))
 
--- a sum or a difference wants one bit more
+-- a sum or a difference needs one bit more
 sub-mag : (a b B : ℕ) → a ≤ B → b < B → mag (subℕ a (suc b)) < B
 sub-mag a b B h k = go (ltb a (suc b)) refl
   where
@@ -293,7 +293,7 @@ pub shiftUp-exact : {w : ℕ} {z : ℤ} → 1 ≤ w → Fits w z → (k : ℕ) �
 unfolding shiftUp
 shiftUp-exact h f k l = wrapped-same 32 _ (omega arith) (fits-mono l (fits-mul h f k))
 
--- nothing is left of a number that is shifted past 32 bits
+-- a number shifted up by 32 or more is zero in 32 bits
 pub shiftUp-out : (k : ℕ) (z : ℤ) → 32 ≤ k → shiftUp k z ≡ pos 0
 unfolding shiftUp wrapped signed
 shiftUp-out k z h =
@@ -304,7 +304,7 @@ shiftUp-out k z h =
     power : 2 ^ k ≡ 2 ^ (k - 32) * 2 ^ 32
     power = ap (λ n. 2 ^ n) (let e : k ≡ k - 32 + 32 = omega arith in e) ∙ pow-add 2 (k - 32) 32
 
--- from w - 1 on, a shift down leaves the sign alone
+-- a shift down by w - 1 or more leaves only the sign
 pub shiftDown-sign : {w : ℕ} {z : ℤ} → Fits w z → (j k : ℕ) → w ≤ j + 1 → w ≤ k + 1 → shiftDown j z ≡ shiftDown k z
 unfolding shiftDown
 shiftDown-sign {w} {z} f j k g h = go z (f .fits)

@@ -1,12 +1,12 @@
--- The check sums (RFC 9639 sections 9.1.8 and 9.3): the remainder of the bits, most significant first and with as many
--- zeros behind them as the sum is wide, by a polynomial over the field of two elements.
+-- The check sums (RFC 9639 sections 9.1.8 and 9.3) are CRCs: the remainder of the bits, most significant first and
+-- followed by w zeros, divided by a polynomial of degree w over the field of two elements. Both start from zero.
 use Prim.Native.Nat.{ℕ, _+_, _-_, _*_, _/_, _%_, _^_}
 use mathlib.Core.List.{List, [], _∷_}
 use lib.Bits.{bitXor}
 use lib.Dec.{eqb}
 use Rattle.reading.specs.Reading.{if_then_else_}
 
--- One bit more, in a sum of w bits. `poly` has a bit for each term below x^w.
+-- The CRC of w bits after one more bit b of the input. `poly` has one bit for each term of the polynomial below x^w.
 unfoldable pub crcBit : ℕ → ℕ → ℕ → ℕ → ℕ
 crcBit w poly r b = if eqb ((r / 2 ^ (w - 1) + b) % 2) 1 then bitXor (r * 2 % 2 ^ w) poly else r * 2 % 2 ^ w
 

@@ -1,5 +1,5 @@
--- A channel as the writer stores it (RFC 9639 sections 9.2.1 to 9.2.7): the bits of each way that is open to it, and which
--- one it takes.
+-- A channel as the writer stores it (RFC 9639 sections 9.2.1 to 9.2.7): the candidates, the bits of each, and which of
+-- them is taken.
 use Prim.Native.Nat.{ℕ, zero, suc, _+_, _*_, _/_, _^_, min}
 use mathlib.Core.Bool.{Bool, true, false, _&&_}
 use mathlib.Core.List.{List, [], _∷_, _++_, map, reverse}
@@ -15,32 +15,32 @@ use Rattle.rfc9639.specs.Prediction.{dot, fixedCoefficients}
 
 -- ---- the residual
 
--- Section 9.2.7.2: a residual's folded form.
+-- Section 9.2.7.2: a residual's folded (zigzag) form. n folds to 2 n, and -1 - n to 2 n + 1.
 unfoldable pub fold : ℤ → ℕ
 fold (pos n) = n * 2
 fold (negsuc n) = n * 2 + 1
 
--- the quotient in unary, then the remainder of k bits
+-- the quotient by 2 ^ k in unary, then the remainder in k bits
 unfoldable pub riceBits : ℕ → ℤ → List ℕ
 riceBits k r = unary (fold r / 2 ^ k) ++ bitsOf k (fold r)
 
--- Section 9.2.7: method 0, one partition, its parameter, and the residuals.
+-- Section 9.2.7: method 0, partition order 0, the Rice parameter of the one partition, and the residuals.
 unfoldable pub residualBits : ℕ → List ℤ → List ℕ
 residualBits k rs = bitsOf 2 0 ++ bitsOf 4 0 ++ bitsOf 4 k ++ row (riceBits k) rs
 
--- what prediction misses, sample by sample: exact in ℤ
+-- each sample minus its prediction, exact in ℤ
 unfoldable pub residuals : List ℤ → ℕ → List ℤ → List ℤ → List ℤ
 residuals coefficients shift before [] = []
 residuals coefficients shift before (x ∷ xs) =
     (x -ℤ shiftDown shift (dot (pos 0) coefficients before)) ∷ residuals coefficients shift (x ∷ before) xs
 
--- behind the warm-up of a fixed predictor
+-- the residuals of a fixed predictor, for the samples after its warm-up
 unfoldable pub fixedResiduals : ℕ → List ℤ → List ℤ
 fixedResiduals order xs = residuals (fixedCoefficients order) 0 (reverse (take order xs)) (drop order xs)
 
 -- ---- the subframe
 
--- samples as they are, w bits each
+-- unencoded samples, w bits each
 unfoldable pub plain : ℕ → List ℤ → List ℕ
 plain w = row (λ x. bitsOf w (low w x))
 
@@ -48,7 +48,7 @@ plain w = row (λ x. bitsOf w (low w x))
 unfoldable pub subframeHead : ℕ → List ℕ
 subframeHead code = bitsOf 1 0 ++ bitsOf 6 code ++ bitsOf 1 0
 
--- a channel of w bits a sample, in each way
+-- the subframe of a channel with w bits a sample, as each candidate stores it
 unfoldable pub codedAs : Candidate → ℕ → List ℤ → List ℕ
 codedAs Constant w xs = subframeHead 0 ++ plain w (take 1 xs)
 codedAs Verbatim w xs = subframeHead 1 ++ plain w xs
@@ -62,7 +62,7 @@ same (pos a) (negsuc b) = false
 same (negsuc a) (pos b) = false
 same (negsuc a) (negsuc b) = eqb a b
 
--- all samples are equal
+-- whether all samples are equal
 unfoldable pub uniform : List ℤ → Bool
 uniform [] = true
 uniform (x ∷ xs) = go xs
@@ -71,22 +71,22 @@ uniform (x ∷ xs) = go xs
     go [] = true
     go (y ∷ ys) = same x y && go ys
 
--- n numbers from `a` on
+-- the n numbers from `a` up
 unfoldable pub counting : ℕ → ℕ → List ℕ
 counting a zero = []
 counting a (suc n) = a ∷ counting (suc a) n
 
--- the fixed predictors of some orders, each with the parameters 0 to 14
+-- the fixed predictors of these orders, each with the Rice parameters 0 to 14
 unfoldable pub fixedOnes : List ℕ → List Candidate
 fixedOnes [] = []
 fixedOnes (order ∷ orders) = map (Fixed order) (counting 0 15) ++ fixedOnes orders
 
--- What is open to a channel: constant where all samples are equal, verbatim, the orders 0 to 4 that are below the block
--- size.
+-- The candidates of a channel: constant where all samples are equal, verbatim, and the fixed predictors of order 0 to 4
+-- with an order below the block size.
 unfoldable pub candidates : List ℤ → List Candidate
 candidates xs = (if uniform xs then Constant ∷ [] else []) ++ Verbatim ∷ fixedOnes (counting 0 (min 5 (length xs)))
 
--- the first of those with the smallest count: a later one is taken only where it has fewer
+-- The first element with the smallest count: a later one is taken only if its count is smaller.
 unfoldable pub fewestOf : {A : Type 0} → (A → ℕ) → A → List A → A
 fewestOf count best [] = best
 fewestOf count best (c ∷ cs) = fewestOf count (if ltb (count c) (count best) then c else best) cs
@@ -95,13 +95,13 @@ unfoldable pub fewest : (Candidate → ℕ) → List Candidate → Candidate
 fewest count [] = Verbatim
 fewest count (c ∷ cs) = fewestOf count c cs
 
--- a candidate's bits
+-- how many bits a candidate has
 unfoldable pub cost : ℕ → List ℤ → Candidate → ℕ
 cost w xs c = length (codedAs c w xs)
 
 unfoldable pub chosen : ℕ → List ℤ → Candidate
 chosen w xs = fewest (cost w xs) (candidates xs)
 
--- the subframe that is written
+-- the subframe that the writer writes
 unfoldable pub subframeBits : ℕ → List ℤ → List ℕ
 subframeBits w xs = codedAs (chosen w xs) w xs

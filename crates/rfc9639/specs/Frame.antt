@@ -13,11 +13,11 @@ use Rattle.rfc9639.specs.Header.{header, sampleCount}
 use Rattle.rfc9639.specs.Subframe.{subframe}
 use Rattle.rfc9639.specs.Stereo.{joined}
 
--- what the caller gives besides the bytes
+-- what the caller gives besides the bytes: room for this many samples
 pub record Settings : Type 0 where
   pub room : ℕ
 
--- a header whose frame can be read: its bits are in it, and there is room for its samples
+-- a header whose frame can be read: it states the bit depth, and there is room for the frame's samples
 unfoldable pub opening : Settings → Ask FrameHeader
 opening set = do
   h ← header
@@ -32,11 +32,11 @@ widths LeftSide b = b ∷ (b + 1) ∷ []
 widths SideRight b = (b + 1) ∷ b ∷ []
 widths MidSide b = b ∷ (b + 1) ∷ []
 
--- the bits up to the next byte
+-- how many bits, after n bits, are left up to the next whole byte
 unfoldable pub padding : ℕ → ℕ
 padding n = (8 - n % 8) % 8
 
--- Section 9.3. The padding is passed unlooked at; the sum is over the whole frame before it.
+-- Section 9.3. The padding is skipped without a check. The CRC-16 is over all bytes of the frame before it.
 unfoldable pub footer : Ask (Unit {0})
 footer = do
   coded ← passed
@@ -45,7 +45,7 @@ footer = do
   sum ← bits 16
   require (eqb sum (crc16 before)) 10
 
--- the samples of all channels, one channel behind the other
+-- what follows the header: the samples of all channels, one channel after the other
 unfoldable pub body : FrameHeader → Ask (List ℤ)
 body h = do
   xs ← each (subframe (h .size)) (widths (h .channels) (h .bits))

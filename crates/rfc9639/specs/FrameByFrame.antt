@@ -1,11 +1,12 @@
--- A whole input, frame by frame: the list of answers up to and with the refusal that ends it. All of it is over any
--- reading of one frame, `one`, so that no setting of the reader shows here.
+-- A whole input, frame by frame: the list of answers, up to and including the refusal that ends it. The definitions
+-- hold for any function `one` that reads one frame, so no setting of the reader appears here.
 use Prim.Native.Nat.{ℕ, zero, suc}
 use mathlib.Core.List.{List, [], _∷_}
 use lib.ListN.{length, drop}
 use Rattle.rfc9639.specs.Read.{Result}
 
--- What an answer is, by its number. 1 and 2 are those that more bytes may change.
+-- What an answer is, by its number: 0 is a frame; 1 and 2 may change with more bytes; more bytes never change the
+-- others.
 pub data Verdict : Type 0 where
   accept undecided refuse : Verdict
 
@@ -18,7 +19,7 @@ verdictOf (suc (suc (suc n))) = refuse
 abbrev pub verdict : Result → Verdict
 verdict r = verdictOf (r .report .number)
 
--- after a frame the reading goes on, after a refusal it does not
+-- reading goes on after a frame, and ends after any other answer
 unfoldable pub goesOn : Verdict → List Result → List Result
 goesOn accept rest = rest
 goesOn undecided rest = []
@@ -29,6 +30,6 @@ unfoldable pub answersIn : ℕ → (List ℕ → Result) → List ℕ → List R
 answersIn zero one s = []
 answersIn (suc n) one s = one s ∷ goesOn (verdict (one s)) (answersIn n one (drop (one s .report .consumed) s))
 
--- An accepted frame has a byte at least: so there are at most as many frames as bytes, and one refusal.
+-- An accepted frame has at least one byte. So there are at most as many frames as bytes, and then one refusal.
 unfoldable pub answers : (List ℕ → Result) → List ℕ → List Result
 answers one s = answersIn (suc (length s)) one s

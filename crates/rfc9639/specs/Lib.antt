@@ -1,4 +1,5 @@
--- What a FLAC frame means, from RFC 9639 and, where it says otherwise, document 01: in the order of the bits.
+-- THE DEFINITION of a FLAC frame, and of the frame that the writer writes: RFC 9639, and document 01 where the two
+-- differ. Each reader asks for its fields in the order of the format.
 pub mod CheckSums
 pub mod Integers
 pub mod Number

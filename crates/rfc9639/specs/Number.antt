@@ -1,10 +1,10 @@
--- The coded number (RFC 9639 section 9.1.5), one to seven bytes. Overlong forms are read. The RFC stops at 36 bits, so
--- no number starts with FF.
+-- The coded number (RFC 9639 section 9.1.5), one to seven bytes in an extended UTF-8. Forms longer than needed are
+-- accepted. A number has at most 36 bits, so none starts with the byte FF.
 use Prim.Native.Nat.{ℕ, zero, suc, _+_, _*_, _/_, _%_}
 use lib.Dec.{ltb, eqb}
 use Rattle.reading.specs.Reading.{Ask, done, stop, _>>=_, _>>_, bits, require, if_then_else_}
 
--- n bytes 10xxxxxx behind what made v
+-- n follower bytes 10xxxxxx, each with six more bits of the number; v is the number so far
 unfoldable pub followed : ℕ → ℕ → Ask ℕ
 followed zero v = done v
 followed (suc n) v = do
@@ -12,7 +12,7 @@ followed (suc n) v = do
   require (eqb (b / 64) 2) 5
   followed n (v * 64 + b % 64)
 
--- what the first byte says, by the ones that it starts with
+-- the number, after its first byte b; the leading ones of b say how many bytes follow
 unfoldable pub numberFrom : ℕ → Ask ℕ
 numberFrom b =
     if ltb b 0x80 then done b

@@ -1,4 +1,4 @@
--- Prediction (RFC 9639 sections 9.2.5 and 9.2.6): exact in ℤ, then 32 bits of the sample are kept.
+-- Prediction (RFC 9639 sections 9.2.5 and 9.2.6): exact in ℤ; of the sample the low 32 bits are kept.
 use Prim.Native.Nat.{ℕ}
 use mathlib.Core.List.{List, [], _∷_, _++_, reverse}
 use lib.Dec.{eqb}
@@ -6,13 +6,13 @@ use lib.IntN.{ℤ, pos, negsuc, _+ℤ_, _*ℤ_}
 use Rattle.reading.specs.Reading.{if_then_else_}
 use Rattle.rfc9639.specs.Integers.{wrapped, shiftDown}
 
--- the sum of the products, added to acc
+-- the dot product of two lists, added to acc
 unfoldable pub dot : ℤ → List ℤ → List ℤ → ℤ
 dot acc [] xs = acc
 dot acc (c ∷ cs) [] = acc
 dot acc (c ∷ cs) (x ∷ xs) = dot (acc +ℤ c *ℤ x) cs xs
 
--- One sample, from the samples before it, the latest first as the coefficients are, and its residual.
+-- One sample, from its residual and the samples before it. They start with the latest sample, as the coefficients do.
 unfoldable pub predicted : List ℤ → ℕ → List ℤ → ℤ → ℤ
 predicted coefficients shift before residual = wrapped 32 (shiftDown shift (dot (pos 0) coefficients before) +ℤ residual)
 
@@ -22,11 +22,11 @@ restored coefficients shift before [] = []
 restored coefficients shift before (r ∷ rs) =
     predicted coefficients shift before r ∷ restored coefficients shift (predicted coefficients shift before r ∷ before) rs
 
--- the block: its warm-up samples, and those that the residual makes
+-- the block: its warm-up samples, then those restored from the residual
 unfoldable pub predict : List ℤ → ℕ → List ℤ → List ℤ → List ℤ
 predict coefficients shift warm residual = warm ++ restored coefficients shift (reverse warm) residual
 
--- Section 9.2.5: the fixed predictors are linear ones with these coefficients and no shift.
+-- Section 9.2.5: the fixed predictors are linear predictors with these coefficients and no shift.
 unfoldable pub fixedCoefficients : ℕ → List ℤ
 fixedCoefficients order =
     if eqb order 0 then []

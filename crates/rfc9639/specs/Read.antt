@@ -1,4 +1,5 @@
--- The whole answer: what a reader reports of some bytes, and what the lent samples hold afterwards.
+-- The whole answer: what the reader reports for some bytes, and what the lent samples hold afterwards. A refusal has
+-- document 01's number; crate `error` names the causes.
 use Prim.Native.Nat.{ℕ}
 use mathlib.Core.List.{List, [], _∷_, _++_}
 use lib.IntN.{ℤ, pos}
@@ -10,7 +11,7 @@ use Rattle.rfc9639.specs.declared.FrameHeader.{FrameHeader}
 use Rattle.rfc9639.specs.Header.{channelCount, sampleCount, firstSample}
 use Rattle.rfc9639.specs.Frame.{Settings, Frame, opening, frame}
 
--- `number` is 0 for a frame, else the refusal's; of a refusal the others are 0
+-- `number` is 0 for a frame. Else it is the refusal's, and all other fields are 0. `consumed` counts the frame's bytes.
 pub record Report : Type 0 where
   pub number : ℕ
   pub consumed : ℕ
@@ -32,7 +33,7 @@ accepted h end = record {
   size = h .size;
 }
 
--- the report, and what stands first among the lent samples afterwards; those behind it are untouched
+-- the report, and the first of the lent samples afterwards; the samples after those are untouched
 pub record Result : Type 0 where
   pub report : Report
   pub front : List ℤ
@@ -43,19 +44,19 @@ untouched n = record { report = refusal n; front = [] }
 unfoldable pub zeroed : ℕ → FrameHeader → Result
 zeroed n h = record { report = refusal n; front = replicate (sampleCount h) (pos 0) }
 
--- Nothing left, or cut short.
+-- 1 if no byte is left, 2 if the input ends within a frame
 unfoldable pub cutShort : List ℕ → ℕ
 cutShort [] = 1
 cutShort (b ∷ bytes) = 2
 
--- The subframes have begun once the first bit of the first is read: from there on a refusal leaves zeros.
+-- The subframes have begun once the first bit of the first one is read. From there on a refusal leaves zeros.
 unfoldable pub begun : Settings → Ask FrameHeader
 begun set = do
   h ← opening set
   bit ← bits 1
   done h
 
--- a frame whose subframes have begun
+-- the result where the subframes have begun
 unfoldable pub finished : FrameHeader → At Frame → Result
 finished h (gotAt f end) = record { report = accepted (f .header) end; front = f .samples }
 finished h (refusedAt n) = zeroed n h
@@ -73,7 +74,7 @@ pub record Outcome : Type 0 where
   pub report : Report
   pub buffer : List ℤ
 
--- What reading some bytes into a buffer comes to.
+-- THE READER: what reading some bytes into a buffer reports, and the buffer afterwards.
 unfoldable pub read : List ℕ → List ℤ → Outcome
 read bytes buffer =
     let r = result (record { room = length buffer }) bytes in

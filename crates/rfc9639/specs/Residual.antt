@@ -6,36 +6,37 @@ use lib.IntN.{ℤ, pos, negsuc}
 use lib.ListN.{replicate}
 use Rattle.reading.specs.Reading.{Ask, done, stop, _>>=_, _>>_, bits, zeros, require, many, each, if_then_else_}
 
--- A residual from its folded form: even to half of it, odd to minus one minus half of it.
+-- Section 9.2.7.2: a residual from its folded (zigzag) form. 2 n unfolds to n, and 2 n + 1 to -1 - n.
 unfoldable pub unfolded : ℕ → ℤ
 unfolded n = if eqb (n % 2) 0 then pos (n / 2) else negsuc (n / 2)
 
--- a quotient and a remainder of k bits, folded; 32 bits are kept
+-- the folded form from a quotient and a remainder of k bits; the low 32 bits are kept
 unfoldable pub folded : ℕ → ℕ → ℕ → ℕ
 folded k q r = (q * 2 ^ k + r) % 2 ^ 32
 
--- Section 9.2.7.2: the quotient in unary, then the remainder.
+-- Section 9.2.7.2: a Rice code, the quotient in unary and then the remainder in k bits.
 unfoldable pub rice : ℕ → Ask ℤ
 rice k = do
   q ← zeros
   r ← bits k
   done (unfolded (folded k q r))
 
--- n residuals under a parameter. The last parameter of each method, residuals stored as they are, is not done.
+-- n residuals with the Rice parameter k. The last parameter of each method escapes to unencoded residuals (section
+-- 9.2.7.1), which are not supported.
 unfoldable pub coded : ℕ → ℕ → ℕ → Ask (List ℤ)
 coded method k n = if eqb k (2 ^ (4 + method) - 1) then stop 8 else many n (rice k)
 
--- Section 9.2.7: a parameter of 4 bits in method 0 and of 5 in method 1, then the residuals.
+-- Section 9.2.7: a Rice parameter, of 4 bits in method 0 and of 5 in method 1, then the residuals.
 unfoldable pub partition : ℕ → ℕ → Ask (List ℤ)
 partition method n = do
   k ← bits (4 + method)
   coded method k n
 
--- 2 ^ order partitions of one size; the first is shorter by the warm-up
+-- 2 ^ order partitions of one size; the first has fewer residuals by the number of warm-up samples
 unfoldable pub partitionSizes : ℕ → ℕ → ℕ → List ℕ
 partitionSizes order size warm = (size - warm) ∷ replicate (2 ^ order - 1) size
 
--- the residual behind `warm` samples of a block of n
+-- the residual of a block of n samples, of which the first `warm` are the warm-up
 unfoldable pub residual : ℕ → ℕ → Ask (List ℤ)
 residual warm n = do
   method ← bits 2

@@ -1,5 +1,5 @@
--- Left and right from a side channel (RFC 9639 section 4.2), in the 32 bits of a sample as claxon has them. The two
--- channels stand one behind the other, n samples each.
+-- Left and right from a side channel (RFC 9639 section 4.2), in 32 bits that wrap, as claxon has them. The two channels
+-- come one after the other, n samples each.
 use Prim.Native.Nat.{ℕ}
 use mathlib.Core.List.{List, [], _∷_, _++_}
 use lib.IntN.{ℤ, pos, _+ℤ_, _-ℤ_, _*ℤ_}
@@ -14,7 +14,7 @@ rightOf left side = wrapped 32 (left -ℤ side)
 unfoldable pub leftOf : ℤ → ℤ → ℤ
 leftOf side right = wrapped 32 (side +ℤ right)
 
--- Twice the mean lost its low bit, which left plus right shares with left minus right.
+-- Left plus right, from its half rounded down. The low bit that was lost is the low bit of left minus right too.
 unfoldable pub doubled : ℤ → ℤ → ℤ
 doubled mid side = wrapped 32 (mid *ℤ pos 2 +ℤ pos (low 1 side))
 
@@ -24,11 +24,13 @@ leftOfMid mid side = shiftDown 1 (wrapped 32 (doubled mid side +ℤ side))
 unfoldable pub rightOfMid : ℤ → ℤ → ℤ
 rightOfMid mid side = shiftDown 1 (wrapped 32 (doubled mid side -ℤ side))
 
+-- f of the two samples at each index of two channels
 unfoldable pub pairwise : (ℤ → ℤ → ℤ) → List ℤ → List ℤ → List ℤ
 pairwise f [] ys = []
 pairwise f (x ∷ xs) [] = []
 pairwise f (x ∷ xs) (y ∷ ys) = f x y ∷ pairwise f xs ys
 
+-- left, then right, from two channels as they are stored
 unfoldable pub joined : ChannelAssignment → ℕ → List ℤ → List ℤ
 joined (Independent k) n xs = xs
 joined LeftSide n xs = take n xs ++ pairwise rightOf (take n xs) (drop n xs)

@@ -13,7 +13,7 @@ use Rattle.rfc9639.specs.Integers.{sample, shiftUp}
 use Rattle.rfc9639.specs.Residual.{residual}
 use Rattle.rfc9639.specs.Prediction.{predict, fixedCoefficients}
 
--- Section 9.2.1.
+-- Section 9.2.1: the type by its code. Reserved codes are refused.
 unfoldable pub subframeType : ℕ → Ask SubframeType
 subframeType code =
     if eqb code 0 then done Constant
@@ -23,20 +23,20 @@ subframeType code =
     else if ltb code 32 then stop 4
     else done (Lpc (code - 31))
 
--- Section 9.2.2: a flag and, where it is set, the count in unary, less one.
+-- Section 9.2.2: a flag and, where it is set, the count less one in unary.
 unfoldable pub wastedBits : Ask ℕ
 wastedBits = do
   flag ← bits 1
   if eqb flag 0 then done 0 else (do z ← zeros; done (z + 1))
 
--- judged by the width of the channel's samples
+-- the wasted bits: at most 31, and fewer than the bits of the channel's samples
 unfoldable pub wastedJudged : ℕ → Ask ℕ
 wastedJudged width = do
   wasted ← wastedBits
   require (leb wasted 31 && ltb wasted width) 9
   done wasted
 
--- a subframe's header behind its zero bit
+-- the rest of a subframe's header, after its reserved zero bit
 unfoldable pub kindAndWasted : ℕ → Ask SubframeHeader
 kindAndWasted width = do
   code ← bits 6
@@ -50,22 +50,22 @@ subframeHeader width = do
   require (eqb reserved 0) 4
   kindAndWasted width
 
--- the samples that a predictor starts from
+-- how many warm-up samples a predictor starts from
 unfoldable pub orderOf : SubframeType → ℕ
 orderOf Constant = 0
 orderOf Verbatim = 0
 orderOf (Fixed k) = k
 orderOf (Lpc k) = k
 
--- Section 9.2.5.
+-- Section 9.2.5: the warm-up samples of w bits, then the residual.
 unfoldable pub fixed : ℕ → ℕ → ℕ → Ask (List ℤ)
 fixed order w n = do
   warm ← many order (sample w)
   res ← residual order n
   done (predict (fixedCoefficients order) 0 warm res)
 
--- Section 9.2.6: the coefficients' precision in bits, stored less one, of which 15 is forbidden; and the shift, of which a
--- negative one is not done.
+-- Section 9.2.6: the coefficients' precision in bits, stored less one, where 15 is forbidden; and the shift. A negative
+-- shift is not supported.
 unfoldable pub quantization : Ask (ℕ × ℕ)
 quantization = do
   precision ← bits 4
@@ -74,7 +74,7 @@ quantization = do
   require (ltb shift 16) 8
   done (precision + 1, shift)
 
--- the coefficients, that of the latest sample first, and what is behind them
+-- the coefficients, the latest sample's first, then the residual
 unfoldable pub lpcBehind : ℕ → ℕ → ℕ → List ℤ → ℕ → Ask (List ℤ)
 lpcBehind order precision shift warm n = do
   coefficients ← many order (sample precision)
@@ -87,7 +87,7 @@ lpc order w n = do
   (precision, shift) ← quantization
   lpcBehind order precision shift warm n
 
--- n samples of w bits, by kind (sections 9.2.3 to 9.2.6)
+-- n samples of w bits, by type (sections 9.2.3 to 9.2.6)
 unfoldable pub samples : SubframeType → ℕ → ℕ → Ask (List ℤ)
 samples Constant w n = do
   x ← sample w
@@ -96,7 +96,8 @@ samples Verbatim w n = many n (sample w)
 samples (Fixed k) w n = fixed k w n
 samples (Lpc k) w n = lpc k w n
 
--- A channel of n samples behind its header. The wasted bits come off the width, and back as zeros at the end.
+-- A channel of n samples, after its header. Samples are stored without their wasted bits, and get them back as zeros at
+-- the low end.
 unfoldable pub subframeBehind : ℕ → ℕ → SubframeHeader → Ask (List ℤ)
 subframeBehind n width h = do
   require (leb (orderOf (h .kind)) n) 9

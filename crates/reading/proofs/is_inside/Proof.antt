@@ -1,4 +1,4 @@
--- Whether a place is inside, by its byte and its bit: each return is one case of the definition's test. Assumes nothing.
+-- `is_inside`: each return is one case of the definition's test. Assumes nothing.
 use native.Mathlib.Omega.{arith}
 use mathlib.Core.Path.{sym}
 use Rattle.reading.proofs.Running.{in-inside, outside-bit, outside-end}
