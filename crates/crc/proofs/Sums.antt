@@ -1,5 +1,4 @@
--- The check sums' laws, over the width and the polynomial: the sum of a list joined of two, and that n bits at once are a
--- look-up of n bits. Assumes nothing.
+-- Check sums of any width and polynomial: of a concatenation, and of n bits taken at once. Assumes nothing.
 use Prim.Native.Nat.{ℕ, zero, suc, _+_, _*_, _-_, _/_, _%_, _^_, _≤_, _<_}
 use native.Mathlib.Numerals.{one-add}
 use native.Mathlib.Omega.{arith}
@@ -15,16 +14,16 @@ use Rattle.rfc9639.specs.CheckSums.{crcBit, crcBits}
 use Rattle.rfc9639.proofs.CheckSums.{bit-below}
 use Rattle.crc.proofs.Xor.{xor-sum, xor-bit, xor-twice, xor-four, xor-back}
 
--- ---- a list joined of two
+-- ---- a concatenation
 
 pub crc-append : (w poly r : ℕ) (s t : List ℕ) → crcBits w poly r (s ++ t) ≡ crcBits w poly (crcBits w poly r s) t
 unfolding crcBits
 crc-append w poly r [] t = refl
 crc-append w poly r (b ∷ s) t = crc-append w poly (crcBit w poly r b) s t
 
--- ---- one bit more, as a sum
+-- ---- one more bit, as an XOR
 
--- the polynomial, or nothing
+-- the polynomial, or zero
 unfoldable fed : ℕ → ℕ → ℕ
 fed zero poly = zero
 fed (suc d) poly = poly
@@ -52,7 +51,7 @@ pub byte-bits : (b : ℕ) → bitsOfByte b ≡ lowBits 8 b
 unfolding bitsOfByte lowBits
 byte-bits b = refl
 
--- a width of v and one more, as every width above 0 is
+-- the width is v + 1, as every width above 0 is
 module _ (v poly : ℕ) (hp : poly < 2 ^ suc v) where
   top-below : (r : ℕ) → r < 2 ^ suc v → r / 2 ^ v < 2
   top-below r h = shr-lt 1 v (rw (one-add v) h)
@@ -65,7 +64,7 @@ module _ (v poly : ℕ) (hp : poly < 2 ^ suc v) where
       ∙ fed-if ((r / 2 ^ v + b) % 2) (r * 2 % 2 ^ suc v) poly (omega arith)
       ∙ ap (λ (d : ℕ). bitXor (r * 2 % 2 ^ suc v) (fed d poly)) (sym (xor-sum (r / 2 ^ v) b (top-below r h) k))
 
-  -- ---- two inputs added have their sums added
+  -- ---- check sums are linear: the XOR of two inputs has the XOR of their sums
 
   bit-xor : (r q b c : ℕ) → r < 2 ^ suc v → q < 2 ^ suc v → b < 2 → c < 2
       → crcBit (suc v) poly (bitXor r q) (bitXor b c) ≡ bitXor (crcBit (suc v) poly r b) (crcBit (suc v) poly q c)
@@ -88,14 +87,14 @@ module _ (v poly : ℕ) (hp : poly < 2 ^ suc v) where
       ∙ crc-xor n (crcBit (suc v) poly r (x / 2 ^ n % 2)) (crcBit (suc v) poly q (y / 2 ^ n % 2)) x y (bit-below (suc v) poly hp r (x / 2 ^ n % 2))
       (bit-below (suc v) poly hp q (y / 2 ^ n % 2))
 
-  -- ---- a sum's own upper bits shift it, and feed nothing
+  -- ---- a sum that is fed its own upper bits only shifts: the polynomial never enters
 
   bit-own : (r : ℕ) → r < 2 ^ suc v → crcBit (suc v) poly r (r / 2 ^ v) ≡ r * 2 % 2 ^ suc v
   unfolding fed
   bit-own r h =
       bit-is r (r / 2 ^ v) h (top-below r h) ∙ ap (λ (d : ℕ). bitXor (r * 2 % 2 ^ suc v) (fed d poly)) (xor-self (r / 2 ^ v)) ∙ xor-zero-r (r * 2 % 2 ^ suc v)
 
-  -- r after k shifts: its top bit, and one shift more
+  -- r after k shifts: its top bit, and the next shift
   shifted-top : (r k j : ℕ) → v ≡ k + j → r * 2 ^ k % 2 ^ suc v / 2 ^ v ≡ r / 2 ^ j % 2
   shifted-top r k j e =
       ap (λ (n : ℕ). r * 2 ^ k % 2 ^ n / 2 ^ v) (sym (one-add v)) ∙ field (r * 2 ^ k) 1 v
@@ -129,7 +128,7 @@ module _ (v poly : ℕ) (hp : poly < 2 ^ suc v) where
       (ap (λ (y : ℕ). crcBits (suc v) poly y (lowBits n t)) (sym (ap (λ (y : ℕ). y % 2 ^ suc v) (mul-one r) ∙ mod-eq-of-lt hr))
       ∙ crc-own n 0 (suc v - n) r (omega arith) ∙ ap (λ (k : ℕ). r * 2 ^ k % 2 ^ suc v) (omega arith))
 
--- ---- n bits at once: the sum of the n upper bits of what was and the new ones, from nothing, and the lower bits moved up
+-- ---- n bits at once: the upper n bits XOR the new ones are summed from zero, and XORed with the lower bits shifted up
 
 pub crc-bits : (w poly n r x : ℕ) → poly < 2 ^ w → n ≤ w → r < 2 ^ w
     → crcBits w poly r (lowBits n x) ≡ bitXor (crcBits w poly 0 (lowBits n (bitXor (r / 2 ^ (w - n)) x))) (r * 2 ^ n % 2 ^ w)
