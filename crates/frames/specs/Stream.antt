@@ -1,5 +1,5 @@
--- A stream header (RFC 9639 sections 6 and 8): the word fLaC and metadata blocks. Each block has a header of four bytes.
--- The highest bit of the first byte marks the last block, and the other three bytes are the block's length.
+-- A stream header (RFC 9639 sections 6 and 8): the word fLaC and metadata blocks. Each block has a header of four
+-- bytes. The highest bit of the first byte marks the last block, and the other three bytes are the block's length.
 use Prim.Native.Nat.{ℕ, suc, zero, _+_, _-_, _*_}
 use mathlib.Core.Bool.{Bool, true, false}
 use mathlib.Core.List.{List}

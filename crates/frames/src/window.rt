@@ -107,8 +107,8 @@ pub fn fill(fd: i32, window: &mut [u8], before: usize, wanted: usize) -> Filled
     }
 }
 
-// How many bytes to want when `left` bytes were too few: twice as many, but no more than there is room for. A long frame
-// that arrives in small pieces is then read again only a few times.
+// How many bytes to want when `left` bytes were too few: twice as many, but no more than there is room for. A long
+// frame that arrives in small pieces is then read again only a few times.
 pub fn next_wanted(left: usize, room: usize) -> usize
     requires { ⌜ left < room ⌝ }
     ensures { λ r. ⌜ (left < r) × (r ≤ room) ⌝ }

@@ -1,6 +1,6 @@
-// Reads frame after frame from up to 32 KiB of standard input into a buffer of 8,192 samples, and writes little-endian
-// records. 01: consumed (4), first sample number (8), channels (1), bits (1), block size (2). 02, for each sample in the
-// buffer's order: the sample (4). 03: the number of the refusal (1), which ends the run.
+// Reads frame after frame from up to 32 KiB of standard input into a buffer of 8,192 samples, and writes
+// little-endian records. 01: consumed (4), first sample number (8), channels (1), bits (1), block size (2). 02, for
+// each sample in the buffer's order: the sample (4). 03: the number of the refusal (1), which ends the run.
 use frame::Accepted;
 use frame::Answer;
 use libc::STDIN_FILENO;

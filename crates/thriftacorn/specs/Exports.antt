@@ -1,6 +1,6 @@
 -- What each exported function promises: the number that it returns, and the value that each reference points to
--- afterwards, are those of the definition. Each predicate is named after its function. It takes the arguments first, then
--- the results; `refusal` is the number returned, 0 if nothing was refused.
+-- afterwards, are those of the definition. Each predicate is named after its function. It takes the arguments first,
+-- then the results; `refusal` is the number returned, 0 if nothing was refused.
 use Prim.Native.Nat.{ℕ, _+_}
 use mathlib.Core.Path.{_≡_}
 use mathlib.Core.List.{List}

@@ -1,6 +1,6 @@
 // One step of reading a whole input frame by frame. Whatever reads frame after frame (the programs, the exported
-// function, the Rust binding's loop) takes this step. Taken from the first byte on, the steps give the definition's list
-// of answers, with none skipped and none read twice (proofs/Walks.antt).
+// function, the Rust binding's loop) takes this step. Taken from the first byte on, the steps give the definition's
+// list of answers, with none skipped and none read twice (proofs/Walks.antt).
 use frame::Answer;
 ghost use Rattle.walk.specs.Steps.{Steps};
 
