@@ -10,6 +10,7 @@ use lib.Dec.{eqb}
 use lib.Pow.{pow-pos, field, shr-shr, shl-shr, shr-lt}
 use Rattle.reading.specs.Reading.{if_then_else_}
 use Rattle.reading.specs.Bytes.{bitsOfByte}
+use Rattle.reading.specs.Spelling.{bitsOf}
 use Rattle.rfc9639.specs.CheckSums.{crcBit, crcBits}
 use Rattle.rfc9639.proofs.CheckSums.{bit-below}
 use Rattle.crc.proofs.Xor.{xor-sum, xor-bit, xor-twice, xor-four, xor-back}
@@ -42,15 +43,6 @@ fed-xor (suc zero) (suc zero) poly h k = sym (xor-self poly)
 fed-xor (suc zero) (suc (suc e)) poly h k = absurd (omega arith)
 fed-xor (suc (suc d)) e poly h k = absurd (omega arith)
 
--- the n low bits of a number, most significant first
-unfoldable pub lowBits : ℕ → ℕ → List ℕ
-lowBits zero x = []
-lowBits (suc n) x = x / 2 ^ n % 2 ∷ lowBits n x
-
-pub byte-bits : (b : ℕ) → bitsOfByte b ≡ lowBits 8 b
-unfolding bitsOfByte lowBits
-byte-bits b = refl
-
 -- the width is v + 1, as every width above 0 is
 module _ (v poly : ℕ) (hp : poly < 2 ^ suc v) where
   top-below : (r : ℕ) → r < 2 ^ suc v → r / 2 ^ v < 2
@@ -78,11 +70,11 @@ module _ (v poly : ℕ) (hp : poly < 2 ^ suc v) where
       ∙ sym (ap₂ bitXor (bit-is r b hr hb) (bit-is q c hq hc))
 
   crc-xor : (n r q x y : ℕ) → r < 2 ^ suc v → q < 2 ^ suc v
-      → crcBits (suc v) poly (bitXor r q) (lowBits n (bitXor x y)) ≡ bitXor (crcBits (suc v) poly r (lowBits n x)) (crcBits (suc v) poly q (lowBits n y))
-  unfolding crcBits lowBits
+      → crcBits (suc v) poly (bitXor r q) (bitsOf n (bitXor x y)) ≡ bitXor (crcBits (suc v) poly r (bitsOf n x)) (crcBits (suc v) poly q (bitsOf n y))
+  unfolding crcBits bitsOf
   crc-xor zero r q x y hr hq = refl
   crc-xor (suc n) r q x y hr hq =
-      ap (λ (s : ℕ). crcBits (suc v) poly s (lowBits n (bitXor x y)))
+      ap (λ (s : ℕ). crcBits (suc v) poly s (bitsOf n (bitXor x y)))
       (ap (crcBit (suc v) poly (bitXor r q)) (xor-bit x y n) ∙ bit-xor r q (x / 2 ^ n % 2) (y / 2 ^ n % 2) hr hq (omega arith) (omega arith))
       ∙ crc-xor n (crcBit (suc v) poly r (x / 2 ^ n % 2)) (crcBit (suc v) poly q (y / 2 ^ n % 2)) x y (bit-below (suc v) poly hp r (x / 2 ^ n % 2))
       (bit-below (suc v) poly hp q (y / 2 ^ n % 2))
@@ -109,35 +101,35 @@ module _ (v poly : ℕ) (hp : poly < 2 ^ suc v) where
       ap (λ (y : ℕ). y % m) a ∙ sym (add-mod x x m) ∙ ap (λ (y : ℕ). y % m) (b ∙ mul-assoc r (2 ^ k) 2 ∙ ap (λ (y : ℕ). r * y) (sym (pow-suc 2 k)))
 
   crc-own : (n k m r : ℕ) → suc v ≡ k + (m + n)
-      → crcBits (suc v) poly (r * 2 ^ k % 2 ^ suc v) (lowBits n (r / 2 ^ m)) ≡ r * 2 ^ (k + n) % 2 ^ suc v
-  unfolding crcBits lowBits
+      → crcBits (suc v) poly (r * 2 ^ k % 2 ^ suc v) (bitsOf n (r / 2 ^ m)) ≡ r * 2 ^ (k + n) % 2 ^ suc v
+  unfolding crcBits bitsOf
   crc-own zero k m r e = ap (λ (n : ℕ). r * 2 ^ n % 2 ^ suc v) (omega arith)
   crc-own (suc n) k m r e =
       let x = r * 2 ^ k % 2 ^ suc v in
-      ap (λ (b : ℕ). crcBits (suc v) poly (crcBit (suc v) poly x b) (lowBits n (r / 2 ^ m)))
+      ap (λ (b : ℕ). crcBits (suc v) poly (crcBit (suc v) poly x b) (bitsOf n (r / 2 ^ m)))
       (ap (λ (y : ℕ). y % 2) (shr-shr r m n) ∙ sym (shifted-top r k (m + n) (omega arith)))
-      ∙ ap (λ (y : ℕ). crcBits (suc v) poly y (lowBits n (r / 2 ^ m))) (bit-own x (mod-lt (r * 2 ^ k) (pow-pos (suc v))) ∙ shifted-on r k)
+      ∙ ap (λ (y : ℕ). crcBits (suc v) poly y (bitsOf n (r / 2 ^ m))) (bit-own x (mod-lt (r * 2 ^ k) (pow-pos (suc v))) ∙ shifted-on r k)
       ∙ crc-own n (suc k) m r (omega arith) ∙ ap (λ (n : ℕ). r * 2 ^ n % 2 ^ suc v) (omega arith)
 
   looked-up : (n r x : ℕ) → n ≤ suc v → r < 2 ^ suc v
-      → crcBits (suc v) poly r (lowBits n x) ≡ bitXor (crcBits (suc v) poly 0 (lowBits n (bitXor (r / 2 ^ (suc v - n)) x))) (r * 2 ^ n % 2 ^ suc v)
+      → crcBits (suc v) poly r (bitsOf n x) ≡ bitXor (crcBits (suc v) poly 0 (bitsOf n (bitXor (r / 2 ^ (suc v - n)) x))) (r * 2 ^ n % 2 ^ suc v)
   looked-up n r x h hr =
       let t = r / 2 ^ (suc v - n) in
-      ap (λ (y : ℕ). crcBits (suc v) poly r (lowBits n y)) (sym (xor-back t x)) ∙ crc-xor n 0 r (bitXor t x) t (pow-pos (suc v)) hr
-      ∙ ap (bitXor (crcBits (suc v) poly 0 (lowBits n (bitXor t x))))
-      (ap (λ (y : ℕ). crcBits (suc v) poly y (lowBits n t)) (sym (ap (λ (y : ℕ). y % 2 ^ suc v) (mul-one r) ∙ mod-eq-of-lt hr))
+      ap (λ (y : ℕ). crcBits (suc v) poly r (bitsOf n y)) (sym (xor-back t x)) ∙ crc-xor n 0 r (bitXor t x) t (pow-pos (suc v)) hr
+      ∙ ap (bitXor (crcBits (suc v) poly 0 (bitsOf n (bitXor t x))))
+      (ap (λ (y : ℕ). crcBits (suc v) poly y (bitsOf n t)) (sym (ap (λ (y : ℕ). y % 2 ^ suc v) (mul-one r) ∙ mod-eq-of-lt hr))
       ∙ crc-own n 0 (suc v - n) r (omega arith) ∙ ap (λ (k : ℕ). r * 2 ^ k % 2 ^ suc v) (omega arith))
 
 -- ---- n bits at once: the upper n bits XOR the new ones are summed from zero, and XORed with the lower bits shifted up
 
 pub crc-bits : (w poly n r x : ℕ) → poly < 2 ^ w → n ≤ w → r < 2 ^ w
-    → crcBits w poly r (lowBits n x) ≡ bitXor (crcBits w poly 0 (lowBits n (bitXor (r / 2 ^ (w - n)) x))) (r * 2 ^ n % 2 ^ w)
-unfolding crcBits lowBits
+    → crcBits w poly r (bitsOf n x) ≡ bitXor (crcBits w poly 0 (bitsOf n (bitXor (r / 2 ^ (w - n)) x))) (r * 2 ^ n % 2 ^ w)
+unfolding crcBits bitsOf
 crc-bits zero poly zero r x hp h hr = omega arith
 crc-bits zero poly (suc n) r x hp h hr = absurd (omega arith)
 crc-bits (suc v) poly n r x hp h hr = looked-up v poly hp n r x h hr
 
 pub crc-byte : (w poly r b : ℕ) → poly < 2 ^ w → 8 ≤ w → r < 2 ^ w
     → crcBits w poly r (bitsOfByte b) ≡ bitXor (crcBits w poly 0 (bitsOfByte (bitXor (r / 2 ^ (w - 8)) b))) (r * 256 % 2 ^ w)
-unfolding bitsOfByte lowBits
+unfolding bitsOfByte bitsOf
 crc-byte w poly r b hp h hr = crc-bits w poly 8 r b hp h hr

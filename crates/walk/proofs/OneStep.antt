@@ -73,7 +73,3 @@ module _ (s : List ℕ) (place : ℕ) (b : List ℤ) {r : Step} {left : List ℤ
 
     pub samples-lent : f .channels * f .size ≤ length b
     samples-lent = samples-there (drop place s) b (h .answer) e
-
-  pub refused-stays : {x : Refusal} → r .answer ≡ Answer.Refused x → r .place ≡ place
-  unfolding refusal
-  refused-stays e = let c = ap (λ (q : Report). q .consumed) (sym (h .answer .report) ∙ ap reportOf e) in omega (arith, h .next)
