@@ -1,11 +1,11 @@
 #!/bin/sh
-# Lists the frames of a card, and says how it ended: sh frames.sh [FILE | -]. What has changed is proved and built first.
+# Lists the frames of a card, and says how it ended: sh frames.sh [FILE | -]. First it proves and builds what changed.
 #
 # The last line starts with one word, and the exit status goes by it:
 #     0   ended:              the card ends after a frame
 #     1   stopped: empty:     something on the card is no frame; the card has no bytes
 #     2   unread: limit:      the card could not be read; a limit of the program ended the run
-# Besides, 2 is bad usage, a file that is not there, another kit, or a program that does not build.
+# Status 2 is also for bad usage, a missing file, another kit, or a program that does not build.
 set -u
 usage="usage: sh frames.sh [FILE | -]
 Lists the frames of the card FILE, of standard input for '-', or of the repository's cases/card.bin.

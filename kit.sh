@@ -1,5 +1,5 @@
-# For scripts to source, at the root of the repository: hold_kit NAME ends the script NAME with status 2 where the
-# Rattle kit is not at hand, or is not the one that README.md names.
+# For scripts to source, at the root of the repository: hold_kit NAME ends the script NAME with status 2 if the Rattle
+# kit is missing, or is not the one that README.md names.
 # shellcheck shell=sh
 hold_kit() {
     if ! command -v rt >/dev/null 2>&1; then

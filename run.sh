@@ -1,7 +1,7 @@
 #!/bin/sh
 # Runs a proved program of this repository: sh run.sh NAME [WORDS], with standard input and output passed on. Programs
-# are for x86-64 and come with the kit's own C library; on another processor they run under the kit's emulator. sh
-# run.sh --say NAME writes the command and does not run it, for a script that has many runs to make.
+# are built for x86-64 with the kit's own C library; on another processor they run under the kit's emulator.
+# sh run.sh --say NAME prints the command instead of running it, for a script that runs the program many times.
 set -u
 here=$(cd "$(dirname "$0")" && pwd) || exit 2
 say=''

@@ -1,8 +1,8 @@
 #!/bin/sh
 # The gate. From a fresh clone: sh test.sh
-# It holds the kit to the one that README.md names, the layout to the formatter's, and then proves every crate, tries
-# every must-fail edit and runs every program, all from nothing. Its last line is 'N passed, M failed'; the lines above
-# it that start with 'not compared: ' say what was left out, and what was not at hand for it.
+# It checks that the kit is the one README.md names and that the formatter has nothing to change. Then it proves every
+# crate, tries every must-fail edit and runs every program, all from scratch. Its last line is 'N passed, M failed'.
+# Lines above it that start with 'not compared: ' say what was left out, and what was missing for it.
 set -u
 cd "$(dirname "$0")" || exit 2
 
@@ -23,7 +23,7 @@ fail() { # WORDS
     echo "test.sh: $1"
 }
 
-run() { # COMMAND: shows what it writes, and adds up its last line, 'N passed, M failed' with a name before it or none
+run() { # COMMAND: shows its output, and adds up the counts of its last line, '[NAME: ]N passed, M failed'
     {
         "$@" 2>&1
         echo "$?" >"$work/status"
@@ -41,7 +41,8 @@ run() { # COMMAND: shows what it writes, and adds up its last line, 'N passed, M
     fi
 }
 
-# A script that could not do all says so in lines 'not compared: ...'. It is not counted, and the lines come at the end.
+# A script that had to leave something out says so in lines 'not compared: ...'. It is not counted as passed, and the
+# lines are repeated at the end.
 compare() { # SCRIPT WORDS
     if ! sh "$@" >"$log" 2>&1; then
         fail "$1 failed"
@@ -52,8 +53,8 @@ compare() { # SCRIPT WORDS
     grep -v '^not compared: ' "$log"
 }
 
-# rt starts so many at a time and waits for all of them: with more than there are processors, none of these stands idle.
-# A check takes less than a gigabyte.
+# rt starts RT_JOBS checks at a time and waits for all of them: with more jobs than processors, no processor is idle. A
+# check takes less than a gigabyte.
 if [ -z "${RT_JOBS:-}" ]; then
     RT_JOBS=$(awk '/^MemAvailable/ { n = int($2 / 1500000); print (n > 6 ? 6 : n < 1 ? 1 : n) }' /proc/meminfo)
     export RT_JOBS
@@ -62,18 +63,18 @@ run rt ci
 for program in runner read_probe write_probe; do
     run sh cases/run.sh "$program"
 done
-# Cards of the sizes that users have, for the main command.
+# Cards of realistic sizes, for the main command.
 run sh cases/frames.sh
-# The fixed list of claxon's answers, for which no Rust is wanted.
+# The fixed list of claxon's answers, which needs no Rust.
 run sh cases/run.sh runner oracle
-# Side by side with claxon and flac, and the bindings, where Rust, claxon's source, flac and cc are at hand.
+# Comparisons with claxon and flac, and the bindings, if Rust, claxon's source, flac and cc are available.
 compare oracle/run.sh --seconds 90
 compare oracle/written.sh
 compare bindings/rust/test.sh
 compare bindings/c/test.sh
-# Where CI has what most of these need, it is to have the rest.
+# A CI that has what most of these need must have the rest too.
 if [ "${CI:-}" = true ] && [ -s "$missing" ] && ! grep -q -e 'no rustc' -e 'no claxon' "$missing"; then
-    fail "this is CI, with Rust and claxon at hand, and still something was not compared"
+    fail "this is CI, with Rust and claxon available, and still something was not compared"
 fi
 cat "$missing"
 echo "$passed passed, $failed failed"

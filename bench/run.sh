@@ -1,8 +1,8 @@
 #!/bin/sh
 # Measures reading against claxon 0.4.3 on the same input, in one process, and then writing:
 #     sh bench/run.sh [--claxon DIR] [--seconds N]
-# N is the length of the sound, by default 240. What it prints is for docs/SPEED.md. It needs 'flac' for the material; the
-# instructions are counted with perf or valgrind, where one of them is at hand.
+# N is the length of the sound, by default 240. The output is for docs/SPEED.md. It needs 'flac' to make the input, and
+# perf or valgrind to count instructions.
 set -u
 name=bench
 # shellcheck source=oracle/build.sh
@@ -16,7 +16,7 @@ while [ $# -gt 0 ]; do
     esac
 done
 
-instructions() { # WHO: how many instructions one reading of the short stream takes, with the program's start
+instructions() { # WHO: how many instructions one reading of the short stream takes, program start included
     if [ "$counter" = perf ]; then
         perf stat -x , -e instructions:u -o "$out/count" "$out/reading" once "$1" "$out/material.flac" >/dev/null
         sed -n 's/^\([0-9]*\),.*instructions.*/\1/p' "$out/count"
@@ -48,7 +48,7 @@ elif command -v valgrind >/dev/null 2>&1; then
     counter=valgrind
 fi
 if [ -z "$counter" ]; then
-    echo "Instructions: not counted, neither perf's counters nor valgrind are at hand."
+    echo "Instructions: not counted, since there are neither perf's counters nor valgrind."
 else
     echo "Instructions a byte, counted with $counter:"
     echo

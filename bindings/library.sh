@@ -1,7 +1,7 @@
-# Finds libthriftacorn.a, and makes it where it is not there or a source is newer. Read by the scripts that link it,
-# which set 'name' (what they are called) and 'root' (the repository). It sets 'library' to the folder that has it: the
-# one that THRIFTACORN_LIB names, else target/staticlib, or target/native on a processor other than x86-64. A library
-# that cannot be had ends the script with status 1.
+# Finds libthriftacorn.a, and builds it if it is missing or a source is newer. Sourced by the scripts that link it,
+# which set 'name' (their own name) and 'root' (the repository). It sets 'library' to the library's folder: the one
+# that THRIFTACORN_LIB names, or else target/staticlib, or target/native on a processor other than x86-64. If there is
+# no library and none can be built, it ends the script with status 1.
 # shellcheck shell=sh
 no_library() { # WORDS
     echo "$name: $1" >&2
@@ -9,7 +9,7 @@ no_library() { # WORDS
 }
 
 make_library() { # COMMAND
-    command -v rt >/dev/null 2>&1 || no_library "$library has no libthriftacorn.a that is new, and there is no 'rt' to make it"
+    command -v rt >/dev/null 2>&1 || no_library "$library has no up-to-date libthriftacorn.a, and there is no 'rt' to build it"
     echo "$name: proving and building the library (some minutes on a fresh clone)" >&2
     mkdir -p "$root/target" || exit 2
     (cd "$root" && "$@") >"$root/target/library.log" 2>&1 || {
@@ -19,7 +19,7 @@ make_library() { # COMMAND
 }
 
 if [ -n "${THRIFTACORN_LIB:-}" ]; then
-    library=$(cd "$THRIFTACORN_LIB" && pwd) || no_library "THRIFTACORN_LIB names '$THRIFTACORN_LIB', which is no folder"
+    library=$(cd "$THRIFTACORN_LIB" && pwd) || no_library "THRIFTACORN_LIB names '$THRIFTACORN_LIB', which is not a folder"
 else
     case $(uname -m) in
     x86_64) library=$root/target/staticlib ;;

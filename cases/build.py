@@ -1,4 +1,4 @@
-"""Builds frames freely: any legal subframe, and most illegal ones, with the check sums made right."""
+"""Builds frames of any kind, with legal and most illegal subframes, and with correct check sums."""
 from model import FIXED, crc, low32
 
 
@@ -35,7 +35,7 @@ def coded(v, length=None):
 
 
 def header(size=1, code=None, rate=0, channels=0, bits=16, variable=0, number=0, length=None, reserved=0, sync=0x7FFC, wrong=0, raw=None, depth=None):
-    """`code` 6 or 7 stores the size; None takes the fixed code where there is one."""
+    """`code` 6 or 7 stores the size; None takes the size's own code if there is one."""
     fixed = {192: 1, 576: 2, 1152: 3, 2304: 4, 4608: 5, 256: 8, 512: 9, 1024: 10, 2048: 11, 4096: 12, 8192: 13, 16384: 14, 32768: 15}
     if code is None:
         code = fixed.get(size, 6 if size <= 256 else 7)
@@ -68,7 +68,7 @@ def verbatim(xs, w, wasted=0):
 
 
 def residual(rs, n, warm, method=0, order=0, parameters=None, extra=0):
-    """`extra` is added to each quotient times 2^(32 - parameter): it is dropped by the reader."""
+    """Each quotient is increased by `extra` times 2^(32 - parameter), which the reader drops."""
     s = Bits().put(method, 2).put(order, 4)
     size, at = n >> order, 0
     for i in range(1 << order):

@@ -1,9 +1,9 @@
-"""Runs 'sh frames.sh' on cards that are made here, and holds its lines and its exit status to what is worked out here.
+"""Runs 'sh frames.sh' on cards that are made here, and compares its lines and exit status with those worked out here.
 
     python3 frames.py
 
-What is to be said of a card follows from how it was made: the lines of its frames, and model.py's number for what comes
-after them. The last line is 'frames: N passed, M failed'.
+What must be said of a card follows from how it was made: a line for each of its frames, and model.py's number for what
+comes after them. The last line is 'frames: N passed, M failed'.
 """
 import os
 import random
@@ -50,12 +50,12 @@ def crc16(data):
 
 
 def summed(data):
-    """With its CRC-16; a table, since frames of megabytes are too long for build.py's."""
+    """The data and its CRC-16, computed with a table: build.py is too slow for frames of megabytes."""
     return data + crc16(data).to_bytes(2, "big")
 
 
 def filler(length, rng):
-    """A frame of so many bytes: 8 bits, one channel, verbatim."""
+    """A frame of `length` bytes: 8 bits, one channel, verbatim."""
     size = length - 11
     data = summed(header(size=size, code=7, bits=8) + b"\x02" + rng.randbytes(size))
     assert len(data) == length
@@ -69,7 +69,7 @@ def largest(rng):
 
 
 def long_frame(length):
-    """A frame of so many bytes, by 21 long runs of zeros: 24 bits, one channel, fixed order 0, Rice parameter 0."""
+    """A frame of `length` bytes with 21 long runs of zeros: 24 bits, one channel, fixed order 0, Rice parameter 0."""
     head = header(size=21, bits=24)
     bits = 8 * (length - len(head) - 2)
     ones, place = [], 8 + 2 + 4 + 4
@@ -87,7 +87,7 @@ def long_frame(length):
 
 
 def card_frames():
-    """The frames of card.bin: two channels of 256 samples of 16 bits, by the model."""
+    """The frames of card.bin, as the model reads them: two channels of 256 samples of 16 bits."""
     data, out = open(os.path.join(HERE, "card.bin"), "rb").read(), []
     while data:
         report = model.read(data, [0] * 512)[0]
@@ -97,11 +97,11 @@ def card_frames():
     return out
 
 
-# ---- what is to be said
+# ---- what must be said
 
 
 def told(frames, tail=b"", opening="", cut=False):
-    """The lines and the status of a card of these frames, and of bytes after them that are no frame, or one that is cut."""
+    """The lines and the status for a card of these frames, with `tail` or an incomplete frame after them."""
     lines, at = [], 0
     for f in frames:
         lines.append(f"frame at byte {at}, length {len(f.data)}, first sample {f.first}, channels {f.channels}, bits {f.bits}, block size {f.size}")
@@ -127,7 +127,7 @@ def joined(frames, tail=b""):
 
 
 def repeated(frames, length, rng):
-    """These frames over and over, and a last one so that the card has so many bytes."""
+    """These frames over and over, and a last one that makes the card `length` bytes long."""
     out, at = [], 0
     while length - at > 60000:
         out.append(frames[len(out) % len(frames)])
@@ -217,7 +217,7 @@ def streams(small):
 
 
 def run(words, feed=None, pause=0.0):
-    """The lines and the status, with what is fed to standard input piece by piece."""
+    """The lines and the status; `feed` goes to standard input piece by piece."""
     p = subprocess.Popen(COMMAND + words, stdin=subprocess.PIPE if feed is not None else subprocess.DEVNULL, stdout=subprocess.PIPE, stderr=subprocess.PIPE)
     if feed is not None and pause:
         for piece in feed:

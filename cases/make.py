@@ -1,10 +1,10 @@
-"""Writes the stored cases: runner.txt, read_probe.txt and write_probe.txt, a line each of name, input and output in hex,
-and card.bin.
+"""Writes the stored cases: card.bin, and the lists runner.txt, read_probe.txt and write_probe.txt, where each line is a
+case's name, its input and its output in hex.
 
     python3 cases/make.py
 
-The outputs are model.py's, which was held against claxon 0.4.3 on random frames and damaged copies of them, and writer.py's.
-How many cases a list has stands in COUNTS, which is changed by hand.
+The outputs come from writer.py, and from model.py, which was compared with claxon 0.4.3 on random frames and damaged
+copies of them. COUNTS says how many cases a list has, and is changed by hand.
 """
 import hashlib
 import os
@@ -35,7 +35,7 @@ def tone(n, amp, step, rng):
 
 
 def refused():
-    """Inputs at which each check in turn refuses, with the sums right up to there."""
+    """Inputs that fail each check in turn, with the check sums right up to there."""
     h, h4 = mono(), header(size=4, bits=8)
     one = lambda head, bits: head + bits.bytes()
     yield "empty", b""
@@ -115,7 +115,7 @@ def accepted(rng):
 
 
 def claxon_sides():
-    """The data of claxon's verify_decode_left_side, _right_side and _mid_side, as frames of 8 bits; its results are held to."""
+    """The data of claxon's verify_decode_left_side, _right_side and _mid_side as frames of 8 bits, with its results."""
     left, right = [2, 5, 83, 113, 127, -63, -45, -15], [-5, -33, -59, -125, 127, 89, 7, 3]
     side, mid = [7, 38, 142, 238, 0, -152, -52, -18], [-2, -14, 12, -6, 127, 13, -19, -6]
     for name, code, first, second in [("left", 8, left, side), ("right", 9, side, right), ("mid", 10, mid, side)]:
@@ -126,7 +126,7 @@ def claxon_sides():
 
 
 def differences():
-    """The inputs of docs/DIFFERENCES.md, where claxon, the RFC and this reader part."""
+    """The inputs of docs/DIFFERENCES.md, on which claxon, the RFC and this reader differ."""
     for line in open("../docs/DIFFERENCES.md"):
         cells = [cell.strip() for cell in line.split("|")]
         if len(cells) > 3 and cells[2].startswith("`FF"):
@@ -134,7 +134,7 @@ def differences():
 
 
 def sound(frames):
-    """The samples of these frames as a stream's MD5 has them: by time, channel beside channel, 16 bits each."""
+    """The samples of these frames as a stream's MD5 takes them: interleaved, 16 bits each."""
     out = b""
     for data in frames:
         r, xs = model.read(data, [0] * 64)
@@ -144,8 +144,8 @@ def sound(frames):
 
 
 def published():
-    """RFC 9639's appendix D. The samples of D.1 and D.2 have the MD5 that their streams name; D.3 has a partition that is
-    stored plain, which is not done."""
+    """The frames of RFC 9639's appendix D. The samples of D.1 and D.2 have the MD5 that their streams give; D.3 has an
+    escaped partition, which is not supported."""
     assert hashlib.md5(sound([WHOLE])).hexdigest() == "3e84b41807dc690307586a3dad1a2e0f"
     assert hashlib.md5(sound(D2)).hexdigest() == "d5b0564975e98b8d8b930422757b8103"
     yield "rfc9639-d1", WHOLE
@@ -156,8 +156,8 @@ def published():
 
 
 def frame_in_sound():
-    """A frame whose sound holds RFC 9639's first frame, check sums and all, at byte 107. Of the first 161 bytes it is cut
-    short; whoever hunts on from there, and does not wait, finds the frame that is none."""
+    """A frame whose sound contains RFC 9639's first frame, check sums and all, at byte 107. Its first 161 bytes are a
+    frame cut short: a program that searches on instead of waiting finds the frame that is not one."""
     xs = [i * i % 251 - 125 for i in range(191)]
     xs[99:114] = [model.signed(8, b) for b in WHOLE]
     data = frame(header(size=191, bits=8), [verbatim(xs, 8)])
@@ -171,7 +171,7 @@ def frame_in_sound():
 
 
 def row_of(length):
-    """Frames in a row, so many bytes in all and few samples: most bytes are unary runs."""
+    """Frames in a row, `length` bytes in all but few samples: most bytes are unary runs."""
     row = FLAC + D2[0]
     for k in range(6):
         xs = [(-1) ** i * (1000 + 17 * i + k) for i in range(16)]
@@ -183,8 +183,8 @@ def row_of(length):
 
 
 def limits():
-    """Inputs about 32 KiB, which is as much as `runner` reads: a last frame that ends before that, there and one byte on,
-    and a byte more after the first two."""
+    """Inputs of about 32 KiB, which is as much as `runner` reads: a last frame that ends one byte before that, exactly
+    there and one byte later; and the first two with one more byte."""
     for length in (32767, 32768, 32769):
         yield f"bytes-{length}", row_of(length)
     for length in (32767, 32768):
@@ -211,7 +211,7 @@ def runner_cases():
 
 
 def probe_cases():
-    """Room and fill before the bytes: every row of the table of what the buffer holds."""
+    """The room, the fill sample and the bytes: every row of the table of what the buffer holds."""
     rng = random.Random(204)
     at = lambda room, fill: model.little(room, 4) + model.little(fill, 4)
     for name, data in refused():
@@ -231,8 +231,8 @@ def settings(code, bits, size, blocking=0, number=0):
 
 
 def blocks():
-    """Samples and settings that the writer takes: every channel code, every width, block sizes about the codes' limits,
-    number forms, and samples that make each way of storing the shortest."""
+    """Samples and settings that the writer accepts: every channel code, every width, block sizes at the codes' limits,
+    every form of number, and samples for which each kind of subframe is the shortest."""
     rng = random.Random(11)
     shapes = [lambda n, top: [0] * n, lambda n, top: [top - 1] * n, lambda n, top: [rng.randint(-top, top - 1) for _ in range(n)], lambda n, top: [max(-top, min(top - 1, x)) for x in tone(n, top * 0.7, 0.21, rng)], lambda n, top: [max(-top, min(top - 1, 3 * i * i - 7 * i)) for i in range(n)], lambda n, top: [-top if i % 2 else top - 1 for i in range(n)]]
     for code in range(11):
@@ -300,7 +300,7 @@ def write(name, cases, program):
 
 
 def card():
-    """A small card: a night of three callers, each with another way of being stored."""
+    """A small card: a night of three callers, each stored in another way."""
     rng = random.Random(7)
     out = b""
     for k in range(6):

@@ -1,6 +1,6 @@
-"""A plain reading of the scope paper in Python: what one read answers, and what the buffer holds afterwards.
+"""The reader of the scope paper in plain Python: what one read answers, and what the buffer holds afterwards.
 
-It shares nothing with the definition or the code, so that stored cases are no echo of them. make.py uses it.
+It shares nothing with the definition or the code, so that the stored cases do not merely repeat them. make.py uses it.
 """
 
 

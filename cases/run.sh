@@ -1,9 +1,9 @@
 #!/bin/sh
 # Runs a built program on stored cases: sh cases/run.sh NAME [LIST]. The list is cases/LIST.txt, by default
-# cases/NAME.txt; a line of it is a case's name, its input and the output that it must have, in hex ('-' for none). How
-# many cases a list has stands in cases/COUNTS. A list that is not there, is empty, ends without a newline or has
-# another number of cases fails, and so does a case whose program ends with a status other than 0. The last line says
-# how many passed and failed.
+# cases/NAME.txt. Each line is a case: its name, its input and the output that it must give, in hex ('-' for none).
+# cases/COUNTS says how many cases a list has. A list fails if it is missing or empty, ends without a newline or has
+# another number of cases. A case also fails if the program ends with a status other than 0. The last line says how many
+# passed and failed.
 set -u
 cd "$(dirname "$0")/.." || exit 2
 program=${1:?"usage: sh cases/run.sh NAME [LIST]"}
@@ -46,7 +46,7 @@ fi
 
 scratch=$(mktemp -d) || exit 2
 trap 'rm -rf "$scratch"' EXIT
-# Both texts of each line as escapes for printf, once for the whole list: a case then takes two processes.
+# Turns the input and output of all lines into escapes for printf at once, so that a case takes only two processes.
 awk '
     BEGIN {
         digits = "0123456789abcdef"

@@ -1,5 +1,6 @@
-"""A plain writing of the scope paper's added writer in Python: what one write answers, and what the output holds
-afterwards. It shares nothing with the definition or the code. make.py uses it.
+"""The writer of the scope paper in plain Python: what one write answers, and what the output holds afterwards.
+
+It shares nothing with the definition or the code. make.py uses it.
 """
 from build import Bits, header, mask, start
 from model import FIXED, crc
@@ -12,7 +13,7 @@ def fold(r):
 
 
 def misses(order, xs):
-    """What a fixed predictor misses of each sample behind its warm-up."""
+    """The residual of a fixed predictor: how far each sample after the warm-up is from the prediction."""
     return [xs[i] - sum(c * xs[i - 1 - j] for j, c in enumerate(FIXED[order])) for i in range(order, len(xs))]
 
 
@@ -23,7 +24,7 @@ def verbatim(s, xs, w):
 
 
 def subframe(xs, w):
-    """The first of those with the fewest bits."""
+    """The subframe with the fewest bits, and the first of several."""
     ways = [(8 + w, 0)] if len(set(xs)) == 1 else []
     ways.append((8 + w * len(xs), 1))
     for order in range(min(5, len(xs))):
@@ -60,7 +61,7 @@ def frame(samples, code, bits, blocking, number, size):
 
 
 def write(samples, code, bits, blocking, number, size, output):
-    """The number, the length, and the output afterwards."""
+    """The answer's number, the length, and the output afterwards."""
     channels = code + 1 if code < 8 else 2
     if code > 10 or bits not in (8, 12, 16, 20, 24) or blocking not in LIMIT or not 1 <= size <= 65535 or number > LIMIT[blocking] or len(samples) != channels * size:
         return 11, 0, output

@@ -1,8 +1,8 @@
-# Builds claxon from its source, the binding and a program over both, with rustc alone. Read by the scripts here and in
-# bench/, which set 'name' to what they are called and 'compared' to what they compare. It takes '--claxon DIR' out of
-# the arguments and sets 'root' (the repository), 'out' (a folder for what is built) and 'library' (the folder that has
-# libthriftacorn.a). Where Rust, a linker or claxon's source is not at hand it says so and ends the script with status
-# 0; a library that cannot be built ends it with status 1.
+# Builds claxon from its source, the binding, and a program that uses both, with rustc alone. Sourced by the scripts
+# here and in bench/, which set 'name' to their own name and 'compared' to what they compare. It takes '--claxon DIR'
+# out of the arguments and sets 'root' (the repository), 'out' (a folder for the build) and 'library' (the folder of
+# libthriftacorn.a). If Rust, a linker or claxon's source is missing, it says so and ends the script with status 0; a
+# library that cannot be built ends it with status 1.
 # shellcheck shell=sh
 root=$(cd "$(dirname "$0")/.." && pwd) || exit 2
 out=$root/target/oracle
@@ -37,14 +37,14 @@ command -v cc >/dev/null 2>&1 || missing="$missing, no linker cc on the PATH"
 . "$root/bindings/library.sh"
 mkdir -p "$out" || exit 2
 
-build() { # PROGRAM SOURCE: the program over claxon, the binding and what the programs share
+build() { # PROGRAM SOURCE: the program, with claxon, the binding and what the programs share
     rust 2015 --crate-type rlib --crate-name claxon --cap-lints allow "$claxon/src/lib.rs" &&
         rust 2021 --crate-type rlib --crate-name thriftacorn -L "native=$library" "$root/bindings/rust/src/lib.rs" &&
         rust 2021 --crate-type rlib --crate-name common --extern claxon --extern thriftacorn "$root/oracle/common/lib.rs" &&
         rust 2021 --crate-name "$1" --extern claxon --extern thriftacorn --extern common "$2"
 }
 
-rust() { # EDITION WORDS: in one unit, which makes claxon fastest
+rust() { # EDITION WORDS: in one codegen unit, which makes claxon fastest
     edition=$1
     shift
     rustc --edition "$edition" -C opt-level=3 -C codegen-units=1 -L "$out" --out-dir "$out" "$@"

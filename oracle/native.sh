@@ -1,7 +1,7 @@
 #!/bin/sh
 # Writes target/native/libthriftacorn.a, the library for this machine's own processor: sh oracle/native.sh
-# 'rt staticlib' proves the library and compiles it for x86-64. Here it runs with a copy of the kit, made of links, whose
-# clang keeps the module that it is given, and the kit's own clang compiles that module again.
+# 'rt staticlib' proves the library and compiles it for x86-64. Here it runs with a copy of the kit, made of links,
+# whose clang saves the module it is given. The kit's own clang then compiles that module for this processor.
 set -eu
 root=$(cd "$(dirname "$0")/.." && pwd)
 kit=$(dirname "$(dirname "$(rt doc)")")
@@ -11,7 +11,7 @@ copy=$native/kit
 rm -rf "$native"
 mkdir -p "$copy"
 
-links() { # FOLDER EXCEPT: a folder of the copy with links to all but one entry of the kit's
+links() { # FOLDER EXCEPT: makes a folder of the copy, with links to all entries of the kit's folder but one
     mkdir -p "$copy/$1"
     for entry in "$kit/$1"/*; do
         [ "$(basename "$entry")" = "$2" ] || ln -s "$entry" "$copy/$1/"

@@ -1,5 +1,5 @@
 #!/bin/sh
-# Compares claxon 0.4.3 with this repository's reader on seeded inputs, and the program 'runner' on a sample of them:
+# Compares claxon 0.4.3 with this repository's reader on pseudorandom inputs, and with the program 'runner' on some:
 #     sh oracle/run.sh [--claxon DIR] [--inputs N] [--seconds N] [--seed N]
 # Without a number it reads five million inputs. Status 1 at the first difference that docs/DIFFERENCES.md does not
 # list.

@@ -1,6 +1,6 @@
 #!/bin/sh
 # Has claxon and Debian's 'flac' read what this repository's writer writes: sh oracle/written.sh [--claxon DIR]
-# All channel codes, all bits, many block sizes. Status 1 where the samples do not come back.
+# All channel codes, all bits, many block sizes. Status 1 if the samples do not come back.
 set -u
 name=oracle/written.sh
 compared="claxon and flac with what the writer writes ($name)"

@@ -11,18 +11,18 @@ use std::path::Path;
 use std::time::{Duration, Instant};
 use thriftacorn::{read_frame, ROOM};
 
-/// Samples a second of sound, in each of two channels of 24 bits.
+/// Samples per second of sound, in each of two channels of 24 bits.
 const RATE: usize = 48000;
 const CHANNELS: usize = 2;
 const BITS: u32 = 24;
-/// How many passes there are over all inputs, at least, and for how long, at least, they go on.
+/// The least number of passes over all inputs, and the least time that they take together.
 const PASSES: usize = 12;
 const WHILE: Duration = Duration::from_secs(60);
 
 /// A reader with its buffer.
 trait Reader {
-    /// Reads the frame that starts these bytes, and hands its samples to black_box, so that nothing of the reading is
-    /// left out. Returns its length; `None` where there is no frame.
+    /// Reads the frame at the start of these bytes, and passes its samples to black_box, so that the compiler removes
+    /// none of the reading. Returns its length; `None` if there is no frame.
     fn read(&mut self, bytes: &[u8]) -> Option<usize>;
     /// The samples of the frame read last.
     fn samples(&self) -> &[i32];
@@ -76,7 +76,7 @@ impl Reader for Claxon {
     }
 }
 
-/// Hands each frame's samples and its bytes' range on, in order. Returns how many bytes were read.
+/// Passes on each frame's samples and the range of its bytes, in order. Returns how many bytes were read.
 fn walk(bytes: &[u8], mut reader: impl Reader, mut with: impl FnMut(&[i32], Range<usize>)) -> usize {
     let mut place = 0;
     while let Some(length) = reader.read(&bytes[place..]) {
@@ -86,17 +86,17 @@ fn walk(bytes: &[u8], mut reader: impl Reader, mut with: impl FnMut(&[i32], Rang
     place
 }
 
-/// An input, with the least time that each reader took for each of its frames.
+/// An input, with the shortest time that each reader took for each of its frames.
 struct Input<'a> {
     name: String,
     bytes: &'a [u8],
     samples: usize,
-    /// Where each frame starts, and its times: ours, claxon's.
+    /// Where each frame starts, and its times: ours, then claxon's.
     frames: Vec<(usize, [Duration; 2])>,
 }
 
 impl<'a> Input<'a> {
-    /// Both readers must read all of these bytes, and the same samples.
+    /// Both readers must read all of these bytes, and give the same samples.
     fn new(name: String, bytes: &'a [u8]) -> Input<'a> {
         let (mut frames, mut samples, mut claxon) = (Vec::new(), 0, Claxon::new());
         let end = walk(bytes, Ours::new(), |block, range| {
@@ -109,8 +109,8 @@ impl<'a> Input<'a> {
         Input { name, bytes, samples, frames }
     }
 
-    /// Both readers by turns on each frame. The one that comes second finds the bytes in the cache, so they change
-    /// places from pass to pass.
+    /// Runs both readers on each frame. The second one finds the bytes in the cache, so they swap places from pass to
+    /// pass.
     fn pass(&mut self, ours: &mut Ours, claxon: &mut Claxon, ours_first: bool) {
         for (start, [best, other]) in &mut self.frames {
             let rest = &self.bytes[*start..];
@@ -124,7 +124,7 @@ impl<'a> Input<'a> {
         }
     }
 
-    /// A row of a table: the frames' least times, added up.
+    /// A row of a table: the sum of the frames' shortest times.
     fn print(&self) {
         let sum = |who: usize| self.frames.iter().map(|(_, times)| times[who]).sum::<Duration>().as_secs_f64();
         let (ours, claxon) = (sum(0), sum(1));
@@ -140,7 +140,7 @@ impl<'a> Input<'a> {
 const HEAD: &str = "| input | bytes | samples | ours, ns a byte | claxon, ns a byte \
 | ours, million samples a second | claxon | ours / claxon |\n|---|---|---|---|---|---|---|---|";
 
-/// Reads the frame that starts these bytes, and keeps the time where that is less than before.
+/// Reads the frame at the start of these bytes, and keeps the time if it is shorter than before.
 fn time(reader: &mut impl Reader, bytes: &[u8], least: &mut Duration) {
     let start = Instant::now();
     let length = reader.read(bytes);
@@ -148,8 +148,8 @@ fn time(reader: &mut impl Reader, bytes: &[u8], least: &mut Duration) {
     assert!(length.is_some());
 }
 
-/// Passes over all inputs. What else the machine does falls on some frames of a pass, and on others of the next; and a
-/// time in which it does much falls on a few passes of each input, and not on all of one.
+/// Makes the passes over all inputs. Other work of the machine disturbs different frames in each pass, and a busy time
+/// disturbs a few passes of every input instead of all passes of one.
 fn measure(tables: &mut [(String, Vec<Input>)]) {
     let (mut ours, mut claxon) = (Ours::new(), Claxon::new());
     let (begin, mut pass) = (Instant::now(), 0);
@@ -161,7 +161,7 @@ fn measure(tables: &mut [(String, Vec<Input>)]) {
     }
 }
 
-/// The length of the frames that lie within so many bytes.
+/// The length of the frames that end within this many bytes.
 fn frames_within(bytes: &[u8], length: usize) -> usize {
     let mut within = 0;
     walk(bytes, Ours::new(), |_, range| {
@@ -172,7 +172,7 @@ fn frames_within(bytes: &[u8], length: usize) -> usize {
     within
 }
 
-/// The frames of this sound, encoded with these words.
+/// The frames of this sound, encoded with these options.
 fn stream(folder: &Path, sound: &[i32], words: &[&str]) -> Vec<u8> {
     let stream = flac::encode(folder, sound, CHANNELS, BITS, words).expect("flac encodes the sound");
     flac::frames_of(&stream).to_vec()
@@ -218,7 +218,7 @@ fn once(who: &str, file: &str) {
     println!("{end}");
 }
 
-/// A stream for counting, at this level and of this many seconds.
+/// A stream for counting instructions, at this level and of this many seconds.
 fn short(folder: &Path, level: &str, seconds: usize) {
     let sound = interleaved(&mut Draw::new(9639, "bench"), RATE * seconds, CHANNELS, BITS, Kind::Sines);
     flac::encode(folder, &sound, CHANNELS, BITS, &[level]).expect("flac encodes the sound");

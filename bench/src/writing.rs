@@ -1,4 +1,4 @@
-//! Writing: how fast it is, and how long its frames are beside those of the program `flac`. Prints a table for
+//! Writing: how fast it is, and how long its frames are compared with those of the program `flac`. Prints a table for
 //! docs/SPEED.md.
 
 use common::draw::Draw;
@@ -12,7 +12,7 @@ const RATE: usize = 48000;
 const CHANNELS: usize = 2;
 const BITS: u32 = 24;
 const BLOCK: usize = 4096;
-/// How often each block is written; the least of its times counts.
+/// How often each block is written; the shortest time counts.
 const PASSES: usize = 5;
 
 /// The sound's blocks, channel after channel.
@@ -24,7 +24,7 @@ fn blocks(sound: &[i32]) -> Vec<Vec<i32>> {
     sound.chunks(BLOCK * CHANNELS).map(planar).collect()
 }
 
-/// Writes every block with this channel code. Returns how many bytes that took, and the sum of each block's least time.
+/// Writes every block with this channel code. Returns how many bytes that took, and the sum of the shortest times.
 fn write(blocks: &[Vec<i32>], channel_code: u32) -> (usize, Duration) {
     let mut out = vec![0; WriteSettings::new(channel_code, BITS, BLOCK).longest()];
     let mut length = 0;

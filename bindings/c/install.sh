@@ -1,6 +1,6 @@
 #!/bin/sh
 # Puts the header, the library, the pkg-config file and the licence into a folder: sh bindings/c/install.sh PREFIX
-# The library is made where it is not there (bindings/library.sh). The folder may be moved afterwards.
+# The library is built if it is missing (bindings/library.sh). The folder may be moved afterwards.
 set -u
 name=bindings/c/install.sh
 root=$(cd "$(dirname "$0")/../.." && pwd) || exit 2

@@ -1,6 +1,6 @@
 /*
- * The header's functions, called as C and as C++: RFC 9639's first frame, half of a frame that holds it, frame after
- * frame, writing and reading back, access to a block, and every value that a pointer leads to after a refusal.
+ * The header's functions, called from C and from C++: RFC 9639's first frame, part of a frame that contains it, frame
+ * after frame, writing and reading back, access to a block, and every value stored through a pointer by a refusal.
  */
 #include <thriftacorn.h>
 
@@ -14,7 +14,7 @@ static void check(int right, int line, const char *what)
     checks++;
     if (!right) {
         failures++;
-        printf("test.c:%d: not so: %s\n", line, what);
+        printf("test.c:%d: false: %s\n", line, what);
     }
 }
 #define CHECK(fact) check((fact) != 0, __LINE__, #fact)
@@ -24,7 +24,7 @@ static const uint8_t whole[15] = {0xFF, 0xF8, 0x69, 0x18, 0x00, 0x00, 0xBF, 0x03
                                   0x58, 0xFD, 0x03, 0x12, 0x8B, 0xAA, 0x9A};
 
 /*
- * One channel, 8 bits, 191 verbatim samples; fifteen of them, from byte 107 on, are the bytes of `whole`. It is the
+ * One channel, 8 bits, 191 verbatim samples. Fifteen of them, from byte 107 on, are the bytes of `whole`. It is the
  * stored case `frame-in-sound` of cases/runner.txt.
  */
 #define HOLDING 201
@@ -78,7 +78,7 @@ static void test_whole(void)
     CHECK(is_nothing(&frame));
 }
 
-/* Half a frame waits, though a frame stands inside it. */
+/* Part of a frame is answered with "wait", even if it contains a whole frame. */
 static void test_holding(void)
 {
     uint8_t bytes[HOLDING];
@@ -164,7 +164,7 @@ static void test_write(void)
     }
 }
 
-/* `reserved` of today is a setting of tomorrow: it is refused and not passed over. */
+/* A reserved field may become a setting later, so it is refused and not ignored. */
 static void test_settings(void)
 {
     const thriftacorn_write_settings nothing = THRIFTACORN_WRITE_SETTINGS_INIT;
@@ -223,7 +223,7 @@ static void test_block(void)
     CHECK(left == 0 && right == 0);
 }
 
-/* What the library itself hands back of a refusal, whatever stood there. */
+/* What the library itself stores through pointers on a refusal, whatever was there before. */
 static void test_values(void)
 {
     size_t consumed = 99, channels = 99, size = 99, place = 1, start = 99, end = 99, length = 99;
@@ -245,7 +245,7 @@ static void test_values(void)
     CHECK(thriftacorn_longest_v1(0, 16, 2, 0, 1) == 0);
 }
 
-/* An empty slice may be NULL; another is refused. */
+/* An empty slice may be NULL; any other NULL slice is refused. */
 static void test_null(void)
 {
     thriftacorn_write_settings settings = THRIFTACORN_WRITE_SETTINGS_INIT;
@@ -287,7 +287,7 @@ static void test_needs(void)
     }
 }
 
-/* The structs keep their sizes and their fields' places: objects of two versions of the header fit together. */
+/* The structs keep their sizes and their fields' offsets, so code built with two versions of the header can link. */
 static void test_layout(void)
 {
     CHECK(THRIFTACORN_ROOM == 8 * 65535);

@@ -1,7 +1,7 @@
 #!/bin/sh
 # Installs the header and the library into target/c, and builds and runs test.c with them, as C and as C++:
 #     sh bindings/c/test.sh
-# What is not at hand is said in a line that starts with 'not compared: ', and the status is that of the rest.
+# A line that starts with 'not compared: ' says what is missing; the status is that of the rest.
 set -u
 name=bindings/c/test.sh
 root=$(cd "$(dirname "$0")/../.." && pwd) || exit 2
@@ -19,7 +19,7 @@ else
     echo "not compared: the pkg-config file thriftacorn.pc, since there is no pkg-config on the PATH"
     flags="'-I$place/include' '-L$place/lib' -lthriftacorn"
 fi
-# pkg-config quotes its words for a shell.
+# pkg-config quotes its output for a shell.
 eval "set -- $flags"
 
 try() { # COMPILER LANGUAGE STANDARD FLAGS: builds test.c and runs it

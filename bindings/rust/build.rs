@@ -1,5 +1,5 @@
-//! Finds the static library: in the folder that THRIFTACORN_LIB names (a relative one is taken from this folder), or
-//! where the repository has it: target/staticlib for x86-64, target/native for other processors.
+//! Finds the static library: in the folder that THRIFTACORN_LIB names (a relative path starts from this folder), or in
+//! the repository's target/staticlib for x86-64 or target/native for other processors.
 use std::{env, path::PathBuf, process::exit};
 
 fn main() {

@@ -1,7 +1,7 @@
 #!/bin/sh
 # Runs the binding's tests and the examples in its documentation, and packs the crate, all offline:
 #     sh bindings/rust/test.sh
-# Where cargo or a linker is not at hand a line that starts with 'not compared: ' says so, and the status is 0.
+# If cargo or a linker is missing, a line that starts with 'not compared: ' says so, and the status is 0.
 set -u
 name=bindings/rust/test.sh
 root=$(cd "$(dirname "$0")/../.." && pwd) || exit 2

@@ -4,7 +4,7 @@ use std::fs;
 use std::path::Path;
 use std::process::{Command, Stdio};
 
-/// Whether `flac` is at hand.
+/// Whether `flac` is installed.
 pub fn is_there() -> bool {
     succeeds(Command::new("flac").arg("--version"))
 }
@@ -14,16 +14,16 @@ fn succeeds(command: &mut Command) -> bool {
     status.is_ok_and(|status| status.success())
 }
 
-/// What a command that succeeds has written to this file. What an earlier one left there does not count.
+/// What a successful command wrote to this file. A file left by an earlier command does not count.
 fn written(command: &mut Command, output: &Path) -> Option<Vec<u8>> {
     let _ = fs::remove_file(output);
     succeeds(command).then(|| fs::read(output).ok()).flatten()
 }
 
-/// The words for samples without a file header: `flac` takes and gives them in whole bytes only.
+/// The options for samples without a file header, which `flac` reads and writes in whole bytes only.
 const RAW: [&str; 3] = ["--force-raw-format", "--endian=little", "--sign=signed"];
 
-/// Encodes interleaved samples with these words; `None` where `flac` does not take them.
+/// Encodes interleaved samples with these options; `None` if `flac` does not accept them.
 pub fn encode(folder: &Path, samples: &[i32], channels: usize, bits: u32, words: &[&str]) -> Option<Vec<u8>> {
     let input = folder.join("material.sound");
     let output = folder.join("material.flac");
@@ -39,7 +39,7 @@ pub fn encode(folder: &Path, samples: &[i32], channels: usize, bits: u32, words:
     written(command.args(words).arg("-o").args([&output, &input]), &output)
 }
 
-/// Decodes a stream to interleaved samples; `None` where `flac` does not take it.
+/// Decodes a stream to interleaved samples; `None` if `flac` does not accept it.
 pub fn decode(folder: &Path, stream: &[u8], bits: u32) -> Option<Vec<i32>> {
     let input = folder.join("again.flac");
     let output = folder.join("again.sound");
@@ -50,7 +50,7 @@ pub fn decode(folder: &Path, stream: &[u8], bits: u32) -> Option<Vec<i32>> {
         command.args(RAW);
     }
     let bytes = written(command.arg("-o").args([&output, &input]), &output)?;
-    // A WAVE file's samples stand behind the word 'data' and their length.
+    // A WAVE file's samples follow the word 'data' and their length.
     let start = match bits % 8 {
         0 => 0,
         _ => bytes.windows(4).position(|word| word == b"data").expect("a WAVE file has data") + 8,
@@ -58,7 +58,7 @@ pub fn decode(folder: &Path, stream: &[u8], bits: u32) -> Option<Vec<i32>> {
     Some(unraw(&bytes[start..], bits))
 }
 
-/// A stream's frames: what stands behind the metadata.
+/// A stream's frames: the bytes after the metadata.
 pub fn frames_of(stream: &[u8]) -> &[u8] {
     assert_eq!(&stream[..4], b"fLaC");
     let mut at = 4;

@@ -1,4 +1,4 @@
-//! What the oracle, its other programs and the benchmark share: numbers to draw, sound to encode, the program `flac`,
+//! What the oracle, its other programs and the benchmark share: random numbers, sound to encode, the program `flac`,
 //! the check sums, and the two readers' answers.
 pub mod draw;
 pub mod flac;

@@ -1,4 +1,4 @@
-//! The two readers, asked for one frame each, and their answers in document 01's numbers.
+//! The two readers, each reading one frame, and their answers as document 01's numbers.
 use claxon::frame::FrameReader;
 use claxon::Error;
 use std::io::Cursor;
@@ -6,10 +6,10 @@ use std::panic::{catch_unwind, AssertUnwindSafe};
 pub use thriftacorn::ROOM;
 use thriftacorn::{read_frame, Frame, Refusal};
 
-/// What the buffer holds wherever no reader has written.
+/// The sample that the buffer holds wherever no reader has written.
 const FILL: i32 = 0x5A5A_5A5A;
 
-/// What both readers tell of a frame.
+/// What both readers report about a frame.
 #[derive(Clone, Copy, Debug, PartialEq, Eq)]
 pub struct Report {
     pub consumed: usize,
@@ -30,15 +30,15 @@ impl From<Frame> for Report {
 #[derive(Clone, Copy, Debug, PartialEq, Eq)]
 pub enum Answer {
     Frame(Report),
-    /// By number.
+    /// A refusal, by its number.
     Refused(u8),
     Panicked,
-    /// A message of claxon's that has no number here.
+    /// A message of claxon's without a number here.
     Unknown(&'static str),
 }
 
 impl Answer {
-    /// The number, 0 for a frame.
+    /// The answer's number, 0 for a frame.
     pub fn number(self) -> Option<u8> {
         match self {
             Answer::Frame(_) => Some(0),
@@ -59,7 +59,7 @@ impl Ours {
         Ours { buffer: vec![FILL; ROOM + 1], used: 0 }
     }
 
-    /// Reads the frame that starts these bytes, with this much room.
+    /// Reads the frame at the start of these bytes, with this much room.
     pub fn read(&mut self, bytes: &[u8], room: usize) -> Answer {
         self.buffer[..self.used].fill(FILL);
         self.used = 0;
@@ -80,8 +80,8 @@ impl Ours {
         &self.buffer[..self.used]
     }
 
-    /// Whether the buffer is as the answer has it: untouched by the causes that stand before any subframe, cleared by a
-    /// wrong CRC-16, and untouched behind the part that was written.
+    /// Whether the buffer is as the answer requires: untouched by refusals before any subframe, cleared after a wrong
+    /// CRC-16, and untouched after the part that was written.
     pub fn is_in_order(&self, answer: Answer) -> bool {
         let front = match answer {
             Answer::Refused(1 | 3 | 5 | 6 | 7) => self.used == 0,
@@ -99,12 +99,12 @@ pub struct Claxon<'a> {
 }
 
 impl<'a> Claxon<'a> {
-    /// `samples` is a buffer to use again.
+    /// `samples` is a buffer to reuse.
     pub fn new(bytes: &'a [u8], samples: Vec<i32>) -> Claxon<'a> {
         Claxon { cursor: Cursor::new(bytes), samples }
     }
 
-    /// Reads the next frame. Its bits are not told by claxon, and taken from the header.
+    /// Reads the next frame. claxon does not report its bits, so they are taken from the header.
     pub fn read(&mut self) -> Answer {
         let start = self.cursor.position() as usize;
         let rest = &self.cursor.get_ref()[start..];
@@ -130,7 +130,7 @@ impl<'a> Claxon<'a> {
     }
 }
 
-/// The number that document 01 has for what claxon says of these bytes.
+/// The number that document 01 has for claxon's error on these bytes.
 fn number_of(error: &Error, bytes: &[u8]) -> Answer {
     let message = match error {
         Error::IoError(_) => return Answer::Refused(2),
@@ -139,7 +139,7 @@ fn number_of(error: &Error, bytes: &[u8]) -> Answer {
     };
     Answer::Refused(match message {
         "frame sync code missing" => 3,
-        // claxon tells the reserved sync bit by the same words as reserved codes.
+        // claxon reports the reserved sync bit with the same message as reserved codes.
         "invalid frame header, encountered reserved value" if bytes[1] & 2 != 0 => 3,
         "invalid frame header, encountered reserved value"
         | "invalid frame header"

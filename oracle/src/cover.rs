@@ -1,4 +1,4 @@
-//! Which values of which field the drawn frames had.
+//! Which values of each field occurred in the random frames.
 
 #[derive(Clone, Copy)]
 pub enum Field {
@@ -42,7 +42,7 @@ impl Cover {
         self.0[field as usize] |= 1 << (value & 63);
     }
 
-    /// For each field how many of its legal values were seen.
+    /// How many of its legal values were seen, for each field.
     pub fn print(&self) {
         let parts = FIELDS
             .iter()

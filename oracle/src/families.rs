@@ -1,4 +1,4 @@
-//! The families of drawn inputs. Each unit draws a frame or a few, and has the judge read what it makes of them.
+//! The families of random inputs. Each unit draws one frame or a few, changes them, and has the judge read the result.
 use crate::fault::FAULTS;
 use crate::frame::{mend, write_frame, Sizes, Taste, Written};
 use crate::judge::Judge;
@@ -29,7 +29,7 @@ pub const FAMILIES: [Family; 10] = [
 const MIXED: Taste = Taste { sizes: Sizes::Mixed, fault: None, extreme: false };
 const TINY: Taste = Taste { sizes: Sizes::Tiny, ..MIXED };
 
-/// One frame, alone in the pen.
+/// One frame, with a pen of its own.
 fn single(draw: &mut Draw, pen: &mut Pen, taste: Taste) -> Written {
     pen.clear();
     write_frame(pen, draw, taste)
@@ -62,7 +62,7 @@ fn faults(judge: &mut Judge, family: usize, draw: &mut Draw, pen: &mut Pen) {
     }
 }
 
-/// A frame cut at every byte, or a long one at some.
+/// A frame cut at every byte; a long one at some bytes only.
 fn cuts(judge: &mut Judge, family: usize, draw: &mut Draw, pen: &mut Pen) {
     let taste = if draw.once_in(4) { MIXED } else { TINY };
     single(draw, pen, taste);
@@ -81,7 +81,7 @@ fn flip(draw: &mut Draw, bytes: &mut [u8]) {
     }
 }
 
-/// Bits changed anywhere, the check sums left as they are.
+/// Bits changed anywhere, with the check sums left as they are.
 fn flips(judge: &mut Judge, family: usize, draw: &mut Draw, pen: &mut Pen) {
     single(draw, pen, TINY);
     let mut bytes = pen.bytes.clone();
@@ -92,7 +92,7 @@ fn flips(judge: &mut Judge, family: usize, draw: &mut Draw, pen: &mut Pen) {
     }
 }
 
-/// Bits changed anywhere, and the check sums made right again.
+/// Bits changed anywhere, with the check sums corrected.
 fn flips_mended(judge: &mut Judge, family: usize, draw: &mut Draw, pen: &mut Pen) {
     let written = single(draw, pen, TINY);
     let mut bytes = Vec::with_capacity(pen.bytes.len() + 8);
@@ -103,7 +103,7 @@ fn flips_mended(judge: &mut Judge, family: usize, draw: &mut Draw, pen: &mut Pen
     }
 }
 
-/// Changes a few bits of a frame, mostly behind its header, at times its length too, and makes its sums right again.
+/// Changes a few bits of a frame, mostly after its header, sometimes its length too, and corrects its check sums.
 pub fn damage(draw: &mut Draw, frame: &mut Vec<u8>, header: usize) {
     let end = frame.len() - 2;
     let from = if draw.once_in(3) { 0 } else { header };
@@ -115,7 +115,7 @@ pub fn damage(draw: &mut Draw, frame: &mut Vec<u8>, header: usize) {
     mend(frame, header);
 }
 
-/// A right header, a subframe type, then anything.
+/// A correct header, a subframe type, then anything.
 fn noise(judge: &mut Judge, family: usize, draw: &mut Draw, pen: &mut Pen) {
     let written = single(draw, pen, TINY);
     pen.bytes.truncate(written.header);
@@ -132,7 +132,7 @@ fn noise(judge: &mut Judge, family: usize, draw: &mut Draw, pen: &mut Pen) {
     judge.one(family, &pen.bytes);
 }
 
-/// Frames one behind the other, then rubbish.
+/// Several frames in a row, then rubbish.
 fn rows(judge: &mut Judge, family: usize, draw: &mut Draw, pen: &mut Pen) {
     pen.clear();
     for _ in 0..draw.from(2, 6) {
@@ -153,7 +153,7 @@ fn rows(judge: &mut Judge, family: usize, draw: &mut Draw, pen: &mut Pen) {
     judge.row(family, &pen.bytes);
 }
 
-/// Frames with too little room, just enough, and more; at times cut or with a wrong sum.
+/// Frames with too little room, just enough, and more; sometimes cut short or with a wrong check sum.
 fn room(judge: &mut Judge, family: usize, draw: &mut Draw, pen: &mut Pen) {
     let written = single(draw, pen, TINY);
     match draw.below(4) {

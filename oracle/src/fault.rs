@@ -1,4 +1,4 @@
-//! Every field of a frame that can be wrong, and the refusal that document 01 has for it.
+//! Every field of a frame that can be wrong, and the refusal that document 01 gives for it.
 
 #[derive(Clone, Copy, Debug, PartialEq, Eq)]
 pub enum Fault {

@@ -1,4 +1,4 @@
-//! Whole frames, freely drawn, with the check sums right.
+//! Whole random frames, with the check sums right.
 use crate::fault::Fault::{self, *};
 use crate::header::Header;
 pub use crate::header::Sizes;
@@ -15,10 +15,10 @@ pub struct Taste {
     pub extreme: bool,
 }
 
-/// What was written of a frame.
+/// What was written for a frame.
 #[derive(Clone, Copy)]
 pub struct Written {
-    /// The length of the header, its CRC-8 counted.
+    /// The length of the header, including its CRC-8.
     pub header: usize,
     /// How many samples the frame has.
     pub samples: usize,
@@ -33,7 +33,7 @@ fn is_in_header(fault: Fault) -> bool {
     (fault as u32) <= HeaderSum as u32
 }
 
-/// Adds a frame to the pen, which holds whole bytes.
+/// Adds a frame to the pen, which must be at the start of a byte.
 pub fn write_frame(pen: &mut Pen, draw: &mut Draw, taste: Taste) -> Written {
     let start = pen.bytes.len();
     let mut header = Header::draw(draw, taste.sizes);
@@ -41,7 +41,7 @@ pub fn write_frame(pen: &mut Pen, draw: &mut Draw, taste: Taste) -> Written {
     header.write(pen, draw, taste.fault);
     let length = pen.bytes.len() - start;
     let faulty = draw.below(header.channels());
-    // Behind a faulty header a short body is enough.
+    // After a faulty header a short body is enough.
     let size = if taste.fault.is_some_and(is_in_header) { header.size.min(9) } else { header.size };
     for channel in 0..header.channels() {
         let fault = taste.fault.filter(|fault| is_in_subframe(*fault) && channel == faulty);
@@ -55,7 +55,7 @@ pub fn write_frame(pen: &mut Pen, draw: &mut Draw, taste: Taste) -> Written {
     Written { header: length, samples: (header.channels() * header.size) as usize }
 }
 
-/// Makes both check sums of a frame right again after its bytes were changed.
+/// Corrects both check sums of a frame after its bytes were changed.
 pub fn mend(frame: &mut [u8], header: usize) {
     frame[header - 1] = crc8(&frame[..header - 1]);
     let end = frame.len() - 2;
@@ -63,7 +63,7 @@ pub fn mend(frame: &mut [u8], header: usize) {
     frame[end..].copy_from_slice(&sum.to_be_bytes());
 }
 
-/// The length of an accepted frame's header, its CRC-8 counted.
+/// The length of an accepted frame's header, including its CRC-8.
 pub fn header_length(frame: &[u8]) -> usize {
     let number = match frame[4].leading_ones() {
         0 => 1,

@@ -1,4 +1,4 @@
-//! Frame headers, freely drawn: every size, rate and number form, and each field wrong where that is asked for.
+//! Random frame headers: every size, rate and form of number, with one field wrong on request.
 use crate::cover::Field;
 use crate::fault::Fault::{self, *};
 use crate::pen::Pen;
@@ -10,7 +10,7 @@ use common::sums::crc8;
 pub enum Sizes {
     /// 1 to 24 samples.
     Tiny,
-    /// Mostly below 50 samples, at times any size.
+    /// Mostly below 50 samples, sometimes any size.
     Mixed,
 }
 
@@ -45,7 +45,7 @@ fn draw_size(draw: &mut Draw, sizes: Sizes) -> (u32, u32) {
     }
 }
 
-/// A number, and how many bytes its form has: often more than it needs.
+/// A number, and how many bytes it is coded in: often more than it needs.
 fn draw_number(draw: &mut Draw, variable: bool) -> (u64, u32) {
     let bytes = draw.from(1, 7);
     let room = if bytes == 1 { 7 } else { 5 * bytes + 1 };
@@ -82,7 +82,7 @@ impl Header {
         self.bits + u32::from(side)
     }
 
-    /// Gives the header what this fault needs to be seen at all.
+    /// Changes the header so that this fault can occur in it.
     pub fn suit(&mut self, draw: &mut Draw, fault: Option<Fault>) {
         match fault {
             Some(NumberLimit) => {
@@ -97,7 +97,7 @@ impl Header {
         }
     }
 
-    /// The whole header, its CRC-8 with it. `pen` holds nothing but whole bytes before.
+    /// The whole header with its CRC-8. `pen` must be at the start of a byte.
     pub fn write(&self, pen: &mut Pen, draw: &mut Draw, fault: Option<Fault>) {
         let start = pen.bytes.len();
         self.write_codes(pen, draw, fault);

@@ -1,9 +1,9 @@
-//! Holds the two readers' answers to each other, input by input, and counts.
+//! Compares the two readers' answers, input by input, and counts them.
 use crate::sample::Sample;
 use common::readers::{Answer, Claxon, Ours, ROOM};
 
-/// The entries of docs/DIFFERENCES.md at which the two answers part, as far as a family reaches them. At most of its
-/// other entries both part from the RFC alone.
+/// The entries of docs/DIFFERENCES.md for which the two answers differ, as far as a family reaches them. At most other
+/// entries the two agree and differ only from the RFC.
 pub const LISTED: [&str; 4] = ["one byte of input", "bits code 7, 32 bits", "number starting with FF", "room"];
 
 /// How often each answer was seen in one family, by number. An input that got 7 is read again with enough room, and
@@ -23,7 +23,7 @@ pub struct Judge {
     pub sample: Sample,
 }
 
-/// Which entry of the list lets these answers differ.
+/// Which entry of the list allows these answers to differ.
 fn entry(bytes: &[u8], ours: Answer, claxon: Answer) -> Option<usize> {
     let four_read = bytes.len() >= 4 && bytes[2] >> 4 != 0 && bytes[2] & 15 != 15 && bytes[3] >> 4 <= 10;
     let synced = four_read && bytes[0] == 0xFF && bytes[1] & 0xFE == 0xF8;
@@ -40,7 +40,7 @@ impl Judge {
         Judge { ours: Ours::new(), spare: Vec::new(), tallies: Vec::new(), total: 0, listed: [0; LISTED.len()], sample }
     }
 
-    /// What follows is counted under this name.
+    /// Counts what follows under this name.
     pub fn family(&mut self, name: &'static str) -> usize {
         let known = self.tallies.iter().position(|tally| tally.name == name);
         known.unwrap_or_else(|| {
@@ -49,7 +49,7 @@ impl Judge {
         })
     }
 
-    /// One frame of these bytes, which were made to get this number.
+    /// Reads one frame of these bytes, which were made to get this number.
     pub fn made_for(&mut self, number: u8, family: usize, bytes: &[u8]) {
         let got = self.one(family, bytes);
         if got != number {
@@ -62,7 +62,7 @@ impl Judge {
         }
     }
 
-    /// One frame of these bytes. Returns this reader's number.
+    /// Reads one frame of these bytes. Returns this reader's number.
     pub fn one(&mut self, family: usize, bytes: &[u8]) -> u8 {
         let mut claxon = Claxon::new(bytes, std::mem::take(&mut self.spare));
         let number = self.step(family, bytes, &mut claxon, ROOM).map_or_else(|number| number, |_| 0);
@@ -70,7 +70,7 @@ impl Judge {
         number
     }
 
-    /// One frame of these bytes with this much room. Where that is too little, reading with enough must agree.
+    /// Reads one frame of these bytes with this much room. If that is too little, the readers must agree with enough.
     pub fn lent(&mut self, family: usize, bytes: &[u8], room: usize) {
         let mut claxon = Claxon::new(bytes, std::mem::take(&mut self.spare));
         let answer = self.ours.read(bytes, room);
@@ -83,7 +83,7 @@ impl Judge {
         self.spare = claxon.samples;
     }
 
-    /// Frame after frame of these bytes, up to the first refusal.
+    /// Reads frame after frame of these bytes, up to the first refusal.
     pub fn row(&mut self, family: usize, bytes: &[u8]) {
         let mut claxon = Claxon::new(bytes, std::mem::take(&mut self.spare));
         let mut at = 0;
@@ -93,7 +93,7 @@ impl Judge {
         self.spare = claxon.samples;
     }
 
-    /// Both readers on the same bytes. The bytes consumed, or this reader's refusal.
+    /// Both readers on the same bytes. Returns the bytes consumed, or this reader's refusal.
     fn step(&mut self, family: usize, bytes: &[u8], claxon: &mut Claxon, room: usize) -> Result<usize, u8> {
         let ours = self.ours.read(bytes, room);
         let theirs = claxon.read();
@@ -115,7 +115,7 @@ impl Judge {
         }
     }
 
-    /// A difference that is not on the list ends the run.
+    /// Ends the run at a difference that is not on the list.
     fn part(&mut self, family: usize, bytes: &[u8], room: usize, theirs: Answer, samples_equal: bool) -> ! {
         let ours = self.ours.read(bytes, room);
         println!("a difference off the list, family {}, input {}", self.tallies[family].name, self.total);

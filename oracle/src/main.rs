@@ -31,11 +31,11 @@ struct Wish {
     inputs: u64,
     time: Duration,
     seed: u64,
-    /// How to run the program `runner`; empty where it is not there.
+    /// How to run the program `runner`; empty if it is missing.
     runner: String,
-    /// Where to write stored cases, in place of running `runner`.
+    /// Where to write stored cases, instead of running `runner`.
     list: Option<PathBuf>,
-    /// A folder for files on the way.
+    /// A folder for temporary files.
     work: PathBuf,
 }
 
@@ -75,7 +75,7 @@ fn usage(word: &str) -> ! {
     std::process::exit(2)
 }
 
-/// Rounds of all drawn families until the wish is met, at least one.
+/// Runs rounds of all random families until there are enough inputs or the time is up, but at least one.
 fn rounds(judge: &mut Judge, wish: &Wish, start: Instant) {
     let mut streams: Vec<Draw> = FAMILIES.iter().map(|family| Draw::new(wish.seed, family.name)).collect();
     let mut pen = Pen::default();
@@ -109,7 +109,7 @@ fn report(judge: &Judge, seconds: f64) {
     println!("{} inputs in {seconds:.0} s, 0 differences off the list", judge.total);
 }
 
-/// Streams that `flac` encodes, where it is at hand. There it must encode some.
+/// Streams that `flac` encodes, if it is installed. Then it must encode some.
 fn encoded(judge: &mut Judge, wish: &Wish) {
     if !flac::is_there() {
         println!("not compared: claxon with this reader on what flac encodes, since there is no flac that runs");

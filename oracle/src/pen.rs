@@ -1,4 +1,4 @@
-//! Bits into bytes, the most significant first.
+//! Writes bits into bytes, the most significant first.
 use crate::cover::{Cover, Field};
 
 #[derive(Default)]
@@ -32,7 +32,7 @@ impl Pen {
         self.put(u64::from(value), bits);
     }
 
-    /// Zeros, and a one.
+    /// Zeros, then a one.
     pub fn unary(&mut self, mut zeros: u32) {
         while zeros >= 32 {
             self.put(0, 32);
@@ -41,7 +41,7 @@ impl Pen {
         self.put(1, zeros + 1);
     }
 
-    /// Up to a byte's end, with bits of `padding`.
+    /// Fills up the last byte with bits of `padding`.
     pub fn align(&mut self, padding: u64) {
         self.put(padding, (8 - self.count) % 8);
     }

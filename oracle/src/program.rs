@@ -1,11 +1,11 @@
-//! The program `runner` on kept inputs, held to what claxon's answers come to; and such inputs as stored cases.
+//! Compares the program `runner` with claxon's answers on kept inputs, and writes such inputs as stored cases.
 use crate::hex;
 use crate::sample::Kept;
 use std::io::Write;
 use std::path::Path;
 use std::process::{Command, Stdio};
 
-/// What the program writes on this input; `None` where it ends with a status other than 0.
+/// What the program writes on this input; `None` if it ends with a status other than 0.
 fn run(command: &str, input: &[u8]) -> Option<Vec<u8>> {
     let mut child = Command::new("sh")
         .args(["-c", command])
@@ -13,13 +13,13 @@ fn run(command: &str, input: &[u8]) -> Option<Vec<u8>> {
         .stdout(Stdio::piped())
         .spawn()
         .expect("a shell starts");
-    // A program that ends before it has read all is told by its status or by what it wrote.
+    // If the program ends before it has read everything, its status or its output will show that.
     let _ = child.stdin.take().expect("it has an input").write_all(input);
     let output = child.wait_with_output().expect("the program ends");
     output.status.success().then_some(output.stdout)
 }
 
-/// Ends with status 1 where the program writes something else.
+/// Ends with status 1 if the program writes something else.
 pub fn compare(kept: &[Kept], command: &str) {
     for case in kept {
         let wrote = run(command, &case.bytes);

@@ -13,14 +13,14 @@ pub struct Kept {
     pub output: Vec<u8>,
 }
 
-/// Keeps at most `quota` inputs of each refusal in each family and four times as many frames, none longer than
-/// `longest`, nor with a longer output than `widest`.
+/// Keeps at most `quota` inputs of each refusal in each family, and four times as many frames. None is longer than
+/// `longest`, and no output is longer than `widest`.
 pub struct Sample {
     pub quota: u64,
     pub longest: usize,
     pub widest: usize,
     pub kept: Vec<Kept>,
-    /// By family and number: how many were seen, the next to keep, how many are kept.
+    /// By family and answer: how many were seen, which one to keep next, how many are kept.
     counts: Vec<[[u64; 3]; 11]>,
 }
 
@@ -29,7 +29,7 @@ impl Sample {
         Sample { quota, longest, widest, kept: Vec::new(), counts: Vec::new() }
     }
 
-    /// Keeps the first of a kind, then ever rarer ones, so that a sample is spread over a run.
+    /// Keeps the first of a kind, then one at ever longer intervals, so that the sample is spread over the run.
     pub fn offer(&mut self, family: usize, name: &str, bytes: &[u8], answer: Answer) {
         if self.counts.len() <= family {
             self.counts.resize(family + 1, [[0; 3]; 11]);
@@ -53,7 +53,7 @@ impl Sample {
     }
 }
 
-/// Whether document 01 and claxon part on these bytes (docs/DIFFERENCES.md).
+/// Whether document 01 and claxon differ on these bytes (docs/DIFFERENCES.md).
 fn is_listed(bytes: &[u8]) -> bool {
     let room = &mut [0; RUNNER_ROOM];
     bytes.len() == 1
@@ -62,7 +62,7 @@ fn is_listed(bytes: &[u8]) -> bool {
         || read_frame(bytes, room) == Err(Refusal::NoRoom)
 }
 
-/// What `runner` writes by claxon's answers; `None` where a frame on the way is on the list of differences.
+/// What `runner` must write, from claxon's answers; `None` if one of the frames is on the list of differences.
 pub fn render(bytes: &[u8]) -> Option<Vec<u8>> {
     let bytes = &bytes[..bytes.len().min(RUNNER_BYTES)];
     let mut claxon = Claxon::new(bytes, Vec::new());

@@ -1,4 +1,4 @@
-//! Every short input there is, and every value of a few bytes where that is not too many.
+//! All short inputs, and all values of a few bytes where there are not too many.
 use crate::judge::Judge;
 use common::sums::{crc16, crc8};
 
@@ -33,7 +33,8 @@ fn every_two(mut f: impl FnMut(u8, u8) -> u8) {
     }
 }
 
-/// Subframes of one to four samples of 8 bits: a beginning, then every two bytes, then zeros or none, and the sum.
+/// Subframes of one to four samples of 8 bits: a beginning, then all values of two bytes, then zeros or nothing, and
+/// the check sum.
 fn subframes(judge: &mut Judge) {
     let family = judge.family("short-subframes");
     let beginnings: [(u8, &[u8]); 12] = [

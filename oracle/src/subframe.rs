@@ -1,11 +1,10 @@
-//! Subframes, freely drawn: any legal one, and each field wrong where that is asked for. The samples are whatever the
-//! bits come to.
+//! Random subframes: any legal one, with one field wrong on request. The samples are whatever the bits decode to.
 use crate::cover::Field;
 use crate::fault::Fault::{self, *};
 use crate::pen::Pen;
 use common::draw::Draw;
 
-/// One channel's subframe that is being written.
+/// A channel's subframe while it is being written.
 pub struct Subframe<'a> {
     pub pen: &'a mut Pen,
     pub draw: &'a mut Draw,
@@ -29,7 +28,7 @@ impl Subframe<'_> {
         }
     }
 
-    /// A predictor's order. A fixed one is a number below 5, a linear one 32 more than its order.
+    /// A predictor's order: for a fixed one the order itself, below 5; for a linear one the order plus 32.
     fn draw_order(&mut self) -> u32 {
         let linear = match self.fault {
             Some(Precision | Shift) => true,
@@ -42,7 +41,7 @@ impl Subframe<'_> {
             _ => (u32::from(linear), most.min(self.size)),
         };
         if least > most {
-            // No such fixed order: a linear one serves.
+            // There is no such fixed order, so it takes a linear one.
             return 32 + self.draw.from(least, 32);
         }
         let order = if self.draw.once_in(4) { most } else { self.draw.from(least, most) };
@@ -53,7 +52,7 @@ impl Subframe<'_> {
         }
     }
 
-    /// The zero bit, the type, the wasted bits. Leaves the width without them.
+    /// The zero bit, the type, the wasted bits. Reduces the width by the wasted bits.
     fn write_head(&mut self, kind: u32) {
         self.pen.put(u64::from(self.fault == Some(SubframeZeroBit)), 1);
         let kind = match self.fault {
@@ -76,7 +75,7 @@ impl Subframe<'_> {
         self.width = self.width.saturating_sub(wasted).max(1);
     }
 
-    /// A signed number of this width, as bits.
+    /// A signed number of this width.
     fn draw_number(&mut self, width: u32) -> u64 {
         if self.extreme || self.draw.once_in(16) {
             let top = 1 << (width - 1);
@@ -128,7 +127,7 @@ impl Subframe<'_> {
         }
     }
 
-    /// The residual (RFC 9639 section 9.2.7). A partition may be as long as the warm-up, as claxon has it.
+    /// The residual (RFC 9639 section 9.2.7). A partition may be as short as the warm-up, as in claxon.
     fn write_residual(&mut self, warm: u32) {
         let method = self.draw.below(2);
         let stored = if self.fault == Some(Method) { self.draw.from(2, 3) } else { method };
@@ -164,7 +163,7 @@ impl Subframe<'_> {
         }
     }
 
-    /// A partition stored plain (RFC 9639 section 9.2.7.2), which is not done.
+    /// An escaped partition (RFC 9639 section 9.2.7.1), which neither reader supports.
     fn write_unfolded(&mut self, method: u32, count: u32) {
         self.pen.put(31, 4 + method);
         let width = self.draw.below(32);

@@ -1,5 +1,6 @@
-//! One frame that is too long to be drawn: its wasted bits are counted by 2^32 zeros, and claxon's count wraps. Both
-//! readers read it once. It ends with status 1 where an answer is not the one that docs/DIFFERENCES.md has.
+//! One frame that is too long for the random families: its count of wasted bits is 2^32 zeros, at which claxon's
+//! counter wraps. Both readers read it once. It ends with status 1 if an answer is not the one that
+//! docs/DIFFERENCES.md gives.
 use common::readers::{Answer, Claxon, Ours};
 use common::sums::crc16;
 use std::time::Instant;
@@ -29,7 +30,7 @@ fn main() {
     let mut claxon = Claxon::new(&bytes, Vec::new());
     let theirs = claxon.read();
     println!("claxon {theirs:?}, samples {:?}, in {:.1} s", claxon.samples, start.elapsed().as_secs_f64());
-    // claxon counts no zeros, so one wasted bit: the sample is twice 5.
+    // claxon's counter wraps to zero, so it sees one wasted bit: the sample is 5 times 2.
     let accepted = matches!(theirs, Answer::Frame(frame) if frame.consumed == bytes.len()) && claxon.samples == [10];
     if ours != Answer::Refused(9) || !accepted {
         println!("these are not the answers of docs/DIFFERENCES.md");

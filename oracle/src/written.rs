@@ -1,5 +1,5 @@
 //! Frames written by this repository's writer, read by claxon and, wrapped into a stream, by the program `flac`: the
-//! samples must come back. It ends with status 1 where they do not.
+//! samples must come back. It ends with status 1 if they do not.
 use common::draw::Draw;
 use common::flac;
 use common::readers::{Answer, Claxon};
@@ -7,10 +7,10 @@ use common::signal::{interleaved, Kind};
 use std::path::{Path, PathBuf};
 use thriftacorn::{write_frame, Blocking, WriteSettings};
 
-/// How many frames a stream has. The last is shorter where it can be.
+/// How many frames a stream has. The last is shorter if it can be.
 const FRAMES: usize = 4;
 
-/// The block sizes of every channel code and every number of bits; the largest are for some of them.
+/// The block sizes for every channel code and bit depth; the largest are used for some only.
 const SIZES: [usize; 22] =
     [1, 2, 3, 4, 5, 15, 16, 17, 64, 192, 255, 256, 257, 576, 1000, 1152, 2304, 4096, 4608, 5000, 16384, 65535];
 
@@ -57,8 +57,8 @@ fn stream_header(settings: &WriteSettings, total: usize) -> Vec<u8> {
     header
 }
 
-/// A stream of some frames, and its sound. RFC 9639 lets no stream have blocks below 16 samples but the last one; `flac`
-/// takes them under variable blocking.
+/// A stream of some frames, and its samples. RFC 9639 allows only the last block of a stream to be shorter than 16
+/// samples; `flac` accepts shorter ones with variable blocking.
 fn write_stream(draw: &mut Draw, settings: &WriteSettings) -> (Vec<u8>, Vec<i32>) {
     let (channels, size) = (settings.channels(), settings.block_size);
     let last = if size > 16 { draw.from(1, size as u32) as usize } else { size };
@@ -69,7 +69,7 @@ fn write_stream(draw: &mut Draw, settings: &WriteSettings) -> (Vec<u8>, Vec<i32>
     for (index, part) in sound.chunks(size * channels).enumerate() {
         let block_size = part.len() / channels;
         let planar: Vec<i32> = (0..channels).flat_map(|c| part.iter().skip(c).step_by(channels).copied()).collect();
-        // A short last block of a stream with fixed blocking has the frame's number, like the others.
+        // With fixed blocking, a short last block is numbered by its frame like the others.
         let number = match settings.blocking {
             Blocking::Fixed => index,
             Blocking::Variable => index * size,
@@ -81,7 +81,7 @@ fn write_stream(draw: &mut Draw, settings: &WriteSettings) -> (Vec<u8>, Vec<i32>
     (stream, sound)
 }
 
-/// A stream of these settings, held against `flac` where there is a folder for its files.
+/// A stream with these settings, compared with `flac` if there is a folder for its files.
 fn check(draw: &mut Draw, settings: &WriteSettings, folder: Option<&Path>) {
     let (stream, sound) = write_stream(draw, settings);
     let Some(folder) = folder else { return };
@@ -92,7 +92,7 @@ fn check(draw: &mut Draw, settings: &WriteSettings, folder: Option<&Path>) {
     }
 }
 
-/// Every channel code, every number of bits, every size, both ways of blocking. Returns how many streams there were.
+/// Every channel code, bit depth and block size, with fixed and variable blocking. Returns how many streams there were.
 fn run(folder: Option<&Path>) -> usize {
     let mut draw = Draw::new(9639, "written");
     let mut streams = 0;

@@ -1,11 +1,11 @@
-//! A block's samples, which stand channel after channel: one channel's, one sample, a pair.
+//! A block's samples, which are stored channel after channel: one channel, one sample, a pair.
 use crate::{library, Frame};
 
-/// The samples of the frame. Each method answers `None` where the library refuses, 11: a channel or an index that
-/// there is not, pairs of a frame that has not two channels, and `samples` that are fewer than [`Frame::samples`],
-/// whichever of them is asked for. That is the only refusal there is, and nothing panics.
+/// The samples of the frame. Each method returns `None` where the library refuses with 11: for a channel or an index
+/// out of range, for a pair of a frame without exactly two channels, and if `samples` has fewer than
+/// [`Frame::samples`], whichever of them is asked for. There is no other refusal, and nothing panics.
 impl Frame {
-    /// The part of the samples that is this channel's.
+    /// The samples of this channel.
     ///
     /// ```
     /// # let bytes = [0xFF, 0xF8, 0x69, 0x18, 0, 0, 0xBF, 0x03, 0x58, 0xFD, 0x03, 0x12, 0x8B, 0xAA, 0x9A];
@@ -18,7 +18,7 @@ impl Frame {
     /// ```
     pub fn channel<'a>(&self, samples: &'a [i32], channel: usize) -> Option<&'a [i32]> {
         let (mut start, mut end) = (0, 0);
-        // SAFETY: as `library` wants it.
+        // SAFETY: as `library` requires.
         let number = unsafe {
             library::thriftacorn_channel_v1(
                 samples.as_ptr(),
@@ -33,7 +33,7 @@ impl Frame {
         (number == 0).then(|| &samples[start..end])
     }
 
-    /// The sample of a channel at an index.
+    /// The sample at an index of a channel.
     ///
     /// ```
     /// # let bytes = [0xFF, 0xF8, 0x69, 0x18, 0, 0, 0xBF, 0x03, 0x58, 0xFD, 0x03, 0x12, 0x8B, 0xAA, 0x9A];
@@ -45,7 +45,7 @@ impl Frame {
     /// ```
     pub fn sample(&self, samples: &[i32], channel: usize, index: usize) -> Option<i32> {
         let mut value = 0;
-        // SAFETY: as `library` wants it.
+        // SAFETY: as `library` requires.
         let number = unsafe {
             library::thriftacorn_sample_v1(
                 samples.as_ptr(),
@@ -60,7 +60,7 @@ impl Frame {
         (number == 0).then_some(value)
     }
 
-    /// Left and right at an index, of a frame of two channels.
+    /// The left and the right sample at an index, in a frame of two channels.
     ///
     /// ```
     /// # let bytes = [0xFF, 0xF8, 0x69, 0x18, 0, 0, 0xBF, 0x03, 0x58, 0xFD, 0x03, 0x12, 0x8B, 0xAA, 0x9A];
@@ -72,7 +72,7 @@ impl Frame {
     /// ```
     pub fn pair(&self, samples: &[i32], index: usize) -> Option<(i32, i32)> {
         let (mut left, mut right) = (0, 0);
-        // SAFETY: as `library` wants it.
+        // SAFETY: as `library` requires.
         let number = unsafe {
             library::thriftacorn_pair_v1(
                 samples.as_ptr(),

@@ -2,7 +2,7 @@
 use crate::{library, read::reported, Frame, Refusal};
 
 /// The frames of a slice, one after the other: each starts where the one before ended, and nothing is skipped. Each
-/// read lends its own samples, so this is a loop and no iterator:
+/// read takes a buffer for its samples, so this is used in a loop and is not an iterator:
 ///
 /// ```
 /// use thriftacorn::{Frames, Refusal};
@@ -19,8 +19,8 @@ use crate::{library, read::reported, Frame, Refusal};
 /// assert_eq!((frames.place(), end), (45, Refusal::NothingLeft));
 /// ```
 ///
-/// An input that comes in pieces goes through a window: what the frames took is dropped, and more is fetched where the
-/// refusal wants bytes.
+/// An input that arrives in pieces goes through a window: the bytes of the frames read are dropped, and more are
+/// fetched when a refusal needs them.
 ///
 /// ```
 /// use std::io::Read;
@@ -59,12 +59,12 @@ pub struct Frames<'a> {
 }
 
 impl<'a> Frames<'a> {
-    /// From the first byte of the slice.
+    /// Starts at the first byte of the slice.
     pub const fn new(bytes: &'a [u8]) -> Frames<'a> {
         Frames { bytes, place: 0 }
     }
 
-    /// How many bytes the frames read so far took: the place of the next one.
+    /// How many bytes the frames read so far had, which is the place of the next one.
     pub const fn place(&self) -> usize {
         self.place
     }
@@ -73,7 +73,8 @@ impl<'a> Frames<'a> {
     /// at the same place.
     pub fn read(&mut self, samples: &mut [i32]) -> Result<Frame, Refusal> {
         let Frames { bytes, place } = self;
-        // SAFETY: as `library` wants it; the five places are parts of `report`, and `place` is no part of the bytes.
+        // SAFETY: as `library` requires; the five pointers are to different fields of `report`, and `place` is not in
+        // the bytes.
         reported(|report| unsafe {
             library::thriftacorn_read_next_v1(
                 bytes.as_ptr(),

@@ -1,9 +1,10 @@
-//! The functions of `libthriftacorn.a` as they are. A slice passes as its pointer and its length. Each function
-//! answers on every argument, and `_v1` means that it will not change: one with more settings gets a name of its own.
+//! The functions of `libthriftacorn.a` as they are. A slice is passed as its pointer and its length. Each function
+//! answers on every argument, and `_v1` means that it will not change: one with more settings gets a new name.
 //!
-//! What every call here relies on. The pointer and the length are one slice's own, so that it may be read, or written
-//! where it is lent with `mut`; an empty slice's pointer is aligned and not null. Each value that is handed back has
-//! a place of its own, and nothing overlaps. The functions ask for nothing else, touch no other memory, and return.
+//! What every call here must ensure. A pointer and its length come from one slice, so that it may be read, or written
+//! if it is `mut`; an empty slice's pointer is aligned and not null. Each value that is returned through a pointer
+//! has memory of its own, and nothing overlaps. The functions require nothing else, touch no other memory, and
+//! return.
 
 #[link(name = "thriftacorn", kind = "static")]
 extern "C" {

@@ -4,22 +4,21 @@ use crate::{answer, library, Refusal};
 /// Room for every frame: eight channels of 65535 samples.
 pub const ROOM: usize = 8 * 65535;
 
-/// What is reported of a frame that was read. More may be reported later, so that other crates cannot make one of
-/// their own.
+/// What is reported about a frame that was read. More may be reported later, so other crates cannot construct one.
 #[derive(Clone, Copy, Debug, PartialEq, Eq, Hash)]
 #[non_exhaustive]
 pub struct Frame {
     /// The bytes of the frame, from its sync code through its CRC-16. The next frame starts after them.
     pub consumed: usize,
     /// The number of the block's first sample: with variable blocking the number in the header, with fixed blocking
-    /// that number times the block size. Both readers here always know it; `None` is kept for settings under which a
-    /// frame does not tell.
+    /// that number times the block size. It is always known here; `None` is reserved for settings under which a frame
+    /// does not say.
     pub first_sample: Option<u64>,
     /// How many channels there are, 1 to 8.
     pub channels: usize,
-    /// The bits of a sample: 8, 12, 16, 20 or 24.
+    /// Bits per sample: 8, 12, 16, 20 or 24.
     pub bits: u32,
-    /// How many samples each channel has, 1 to 65535.
+    /// Samples per channel, 1 to 65535.
     pub block_size: usize,
 }
 
@@ -30,7 +29,7 @@ impl Frame {
     }
 }
 
-/// The places that the library reports a frame to.
+/// Where the library stores what it reports about a frame.
 #[derive(Default)]
 pub(crate) struct Report {
     pub consumed: usize,
@@ -40,7 +39,7 @@ pub(crate) struct Report {
     pub size: usize,
 }
 
-/// What a call answers that reports a frame.
+/// The result of a call that reports a frame.
 pub(crate) fn reported(call: impl FnOnce(&mut Report) -> u8) -> Result<Frame, Refusal> {
     let mut report = Report::default();
     let number = call(&mut report);
@@ -48,8 +47,8 @@ pub(crate) fn reported(call: impl FnOnce(&mut Report) -> u8) -> Result<Frame, Re
     answer(number, Frame { consumed, first_sample: Some(first), channels, bits, block_size: size })
 }
 
-/// Reads the frame that starts `bytes` into `samples`, channel after channel. What stands after the frame does not
-/// matter, and what `samples` held before sways no answer.
+/// Reads the frame at the start of `bytes` into `samples`, channel after channel. Neither the bytes after the frame nor
+/// what `samples` held before changes the answer.
 ///
 /// With N for [`Frame::samples`], what `samples` holds afterwards:
 ///
@@ -61,8 +60,8 @@ pub(crate) fn reported(call: impl FnOnce(&mut Report) -> u8) -> Result<Frame, Re
 /// | 2, 4, 8, 9, from then on | the first N are zero, the others untouched |
 /// | 10 | the first N are zero, the others untouched |
 ///
-/// More bytes never unsay an answer other than 1 and 2, and more room changes none but 7: [`Refusal::needs`] says
-/// which it is. [`ROOM`] is enough for every frame.
+/// More bytes can change only the answers 1 and 2, and more room only 7: [`Refusal::needs`] says which it is. [`ROOM`]
+/// is enough for every frame.
 ///
 /// ```
 /// use thriftacorn::{read_frame, Refusal};
@@ -72,7 +71,7 @@ pub(crate) fn reported(call: impl FnOnce(&mut Report) -> u8) -> Result<Frame, Re
 /// assert_eq!(samples, [7, 7]);
 /// ```
 pub fn read_frame(bytes: &[u8], samples: &mut [i32]) -> Result<Frame, Refusal> {
-    // SAFETY: as `library` wants it; the five places are parts of `report`.
+    // SAFETY: as `library` requires; the five pointers are to different fields of `report`.
     reported(|report| unsafe {
         library::thriftacorn_read_frame_v1(
             bytes.as_ptr(),

@@ -9,7 +9,7 @@ use std::{error::Error, fmt};
 pub enum Refusal {
     /// 1: the input is empty.
     NothingLeft = 1,
-    /// 2: the next bit or byte that is wanted is not there. More bytes may make it a frame.
+    /// 2: the input ends before the frame does. More bytes may make it a frame.
     CutShort = 2,
     /// 3: the sync bits are wrong.
     NotSync = 3,
@@ -21,16 +21,16 @@ pub enum Refusal {
     HeaderSum = 6,
     /// 7: the frame has more samples than there is room for.
     NoRoom = 7,
-    /// 8: a part of the format that is not read: bits from the stream's header, 32 bits, partitions stored plain, a
-    /// negative prediction shift.
+    /// 8: a part of the format that is not supported: a bit depth given only in the stream's header, 32 bits, escaped
+    /// partitions, a negative prediction shift.
     NotDone = 8,
     /// 9: sizes that contradict each other.
     BadShape = 9,
     /// 10: the frame's CRC-16 differs.
     FrameSum = 10,
-    /// 11: a setting outside its range, or a count of samples that is not the frame's.
+    /// 11: a setting out of range, or a number of samples that is not the frame's.
     BadArgument = 11,
-    /// 12: a sample that does not fit the bits.
+    /// 12: a sample that does not fit its bits.
     SampleRange = 12,
     /// 13: the frame is longer than the output.
     OutputRoom = 13,
@@ -74,7 +74,7 @@ impl Refusal {
         ALL.get(usize::from(number).wrapping_sub(1)).copied()
     }
 
-    /// What this refusal asks of the caller. Those of the writer, 11 to 13, are no answers of the reader, and final.
+    /// What this refusal asks of the caller. The writer's refusals, 11 to 13, are final; the reader never gives them.
     ///
     /// ```
     /// use thriftacorn::{Need, Refusal};
@@ -104,7 +104,7 @@ impl Refusal {
         matches!(self.needs(), Need::Wait)
     }
 
-    /// Whether more room for samples makes it another answer: [`Need::Room`].
+    /// Whether more room for samples changes the answer: [`Need::Room`].
     pub const fn wants_room(self) -> bool {
         matches!(self.needs(), Need::Room)
     }
@@ -116,12 +116,12 @@ impl Refusal {
     }
 }
 
-/// What a refusal asks of the caller. There are these three, so that a `match` needs no other arm.
+/// What a refusal asks of the caller. There are only these three, so a `match` needs no other arm.
 #[derive(Clone, Copy, Debug, PartialEq, Eq, Hash)]
 pub enum Need {
     /// More bytes may make it a frame: wait for them, and read again from the same place.
     Wait,
-    /// More room for samples makes it another answer. More bytes do not.
+    /// More room for samples changes the answer. More bytes do not.
     Room,
     /// Neither more bytes nor more room changes it.
     Final,

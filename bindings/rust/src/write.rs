@@ -7,12 +7,12 @@ use crate::{answer, library, Refusal};
 pub enum Blocking {
     /// Blocks of one size: the number counts frames.
     Fixed = 0,
-    /// Blocks of any size: the number counts samples, those before the block.
+    /// Blocks of any size: the number counts the samples before the block.
     Variable = 1,
 }
 
-/// What a frame is written with. Other crates start from [`WriteSettings::new`] and may set each field; there may be
-/// more fields later, which `new` gives the meaning that nothing changes.
+/// The settings for writing a frame. Other crates start from [`WriteSettings::new`] and may set each field. There may
+/// be more fields later; `new` will set them so that nothing changes.
 ///
 /// ```
 /// use thriftacorn::{Blocking, WriteSettings};
@@ -23,16 +23,16 @@ pub enum Blocking {
 #[derive(Clone, Copy, Debug, PartialEq, Eq, Hash)]
 #[non_exhaustive]
 pub struct WriteSettings {
-    /// 0 to 7 for one more independent channels, [`WriteSettings::LEFT_SIDE`], [`WriteSettings::SIDE_RIGHT`] or
+    /// 0 to 7 for 1 to 8 independent channels, or [`WriteSettings::LEFT_SIDE`], [`WriteSettings::SIDE_RIGHT`] or
     /// [`WriteSettings::MID_SIDE`].
     pub channel_code: u32,
-    /// The bits of a sample: 8, 12, 16, 20 or 24.
+    /// Bits per sample: 8, 12, 16, 20 or 24.
     pub bits: u32,
     /// What the number counts.
     pub blocking: Blocking,
     /// The frame's number, at most 2147483647, or its first sample's, below 2^36.
     pub number: u64,
-    /// How many samples each channel has, 1 to 65535.
+    /// Samples per channel, 1 to 65535.
     pub block_size: usize,
 }
 
@@ -44,7 +44,7 @@ impl WriteSettings {
     /// Two channels, stored as their mean and the difference.
     pub const MID_SIDE: u32 = 10;
 
-    /// The first frame of a stream with fixed blocking. Nothing is judged here: [`write_frame`] does.
+    /// The first frame of a stream with fixed blocking. Nothing is checked here: [`write_frame`] does that.
     pub const fn new(channel_code: u32, bits: u32, block_size: usize) -> WriteSettings {
         WriteSettings { channel_code, bits, blocking: Blocking::Fixed, number: 0, block_size }
     }
@@ -59,7 +59,7 @@ impl WriteSettings {
         WriteSettings { blocking: Blocking::Variable, number, ..self }
     }
 
-    /// How many channels there are; 0 for a channel code that there is not.
+    /// How many channels there are; 0 for a channel code that does not exist.
     pub const fn channels(&self) -> usize {
         match self.channel_code {
             0..=7 => self.channel_code as usize + 1,
@@ -68,8 +68,8 @@ impl WriteSettings {
         }
     }
 
-    /// The length that no frame with these settings exceeds: an output of it is never refused 13. It is 16 bytes and
-    /// those that hold, for all channels, 8 bits and the samples. 0 for settings with which no frame is written.
+    /// The length in bytes that no frame with these settings exceeds: an output that long never gets refusal 13. It is
+    /// 16 bytes, and the bytes that hold 8 bits and the samples of each channel. It is 0 if the settings are refused.
     ///
     /// ```
     /// use thriftacorn::WriteSettings;
@@ -79,20 +79,20 @@ impl WriteSettings {
     /// ```
     pub fn longest(&self) -> usize {
         let WriteSettings { channel_code, bits, blocking, number, block_size } = *self;
-        // SAFETY: as `library` wants it; no memory is passed.
+        // SAFETY: as `library` requires; no memory is passed.
         unsafe { library::thriftacorn_longest_v1(channel_code, bits, blocking as u32, number, block_size) }
     }
 }
 
-/// Writes one frame to the front of `out` and returns its length. `samples` stand channel after channel: for two
+/// Writes one frame to the front of `out` and returns its length. `samples` are given channel after channel: for two
 /// channels left, then right, whatever the channel code. Reading the frame gives these samples back.
 ///
-/// Past the frame `out` is untouched. Each refusal leaves all of `out` untouched; in this order:
+/// Past the frame `out` is untouched. A refusal leaves all of `out` untouched. They are checked in this order:
 ///
 /// | answer | cause |
 /// |---|---|
-/// | 11 | a setting outside its range, or a count of samples that is not channels times block size |
-/// | 12 | a sample that does not fit the bits |
+/// | 11 | a setting out of range, or a number of samples that is not channels times block size |
+/// | 12 | a sample that does not fit its bits |
 /// | 13 | exactly when the frame is longer than `out`: [`WriteSettings::longest`] is enough |
 ///
 /// ```
@@ -108,7 +108,7 @@ impl WriteSettings {
 /// ```
 pub fn write_frame(samples: &[i32], settings: &WriteSettings, out: &mut [u8]) -> Result<usize, Refusal> {
     let mut length = 0;
-    // SAFETY: as `library` wants it.
+    // SAFETY: as `library` requires.
     let number = unsafe {
         library::thriftacorn_write_frame_v1(
             samples.as_ptr(),

@@ -1,4 +1,4 @@
--- What room a block's samples want, and what the range of a channel says to those who read it. Assumes nothing.
+-- The parts of a block: room for its samples, a channel's range, a sample, a pair. Assumes nothing.
 use Prim.Native.Nat.{ℕ, suc, _+_, _*_, _/_, _≤_, _<_}
 use native.Mathlib.Nat.{le-div-iff-mul-le, div-lt-iff-lt-mul, mul-le-mul-right, suc-mul}
 use native.Mathlib.Omega.{arith}
@@ -29,7 +29,7 @@ room-some channels size len h = go (leb channels (len / size)) refl
     go true e = sym (le-leb (channels * size) len (le-div-iff-mul-le {k = size} {x = channels} {y = len} h .0 (leb-true _ _ e)))
     go false e = sym (lt-leb (channels * size) len (div-lt-iff-lt-mul {k = size} {x = len} {y = channels} h .0 (leb-false _ _ e)))
 
--- the last sample of a channel is one of the block's
+-- a channel ends within the samples of the block
 pub within : (channels size channel len : ℕ) → channel < channels → channels * size ≤ len → channel * size + size ≤ len
 within channels size channel len h k = omega (arith, k, suc-mul channel size, mul-le-mul-right {m = suc channel} {n = channels} size h)
 
@@ -82,7 +82,7 @@ module _ (n : ℕ) (b : Block) (channel : ℕ) where
       go true p = absurd (let k = channel-is p in let z : _≡_ {A = ℕ} 0 1 = cc in omega arith)
       go false p = let k = channel-refuses p in (p, cc)
 
--- ---- one of a channel's samples. A signed value is handed on by its bits.
+-- ---- a sample of a channel. The machine passes a signed value as its bits.
 
 module _ (l : List ℤ) (b : Block) (channel : ℕ) where
   module _ (index : ℕ) where
@@ -107,7 +107,7 @@ module _ (l : List ℤ) (b : Block) (index : ℕ) where
   unfolding pairOf
   pair-not-two h = rw (ne-eqb _ _ h)
 
-  -- the right sample is one of the block's, where it has a second channel
+  -- with a second channel, the right sample lies within the samples of the block
   pub pair-inside : 2 ≤ b .channels → index < b .size → leb (b .channels * b .size) (length l) ≡ true → b .size + index < length l
   pair-inside two h e = omega (arith, h, within (b .channels) (b .size) 1 (length l) two (leb-true _ _ e))
 

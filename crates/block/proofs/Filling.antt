@@ -1,4 +1,4 @@
--- Samples that are set to one value, one after the other. Assumes nothing.
+-- The invariant of `fill`: the samples before i are x. Assumes nothing.
 use Prim.Native.Nat.{ℕ, suc, _+_, _-_, _≤_, _<_}
 use native.Mathlib.Numerals.{add-one}
 use native.Mathlib.Omega.{arith}
@@ -8,7 +8,7 @@ use lib.IntN.{ℤ}
 use lib.ListN.{length, take, set, replicate, length-set, length-replicate, replicate-append-replicate}
 use lib.Seq.{take-suc-set, take-all, take-take, take-at}
 
--- the first i of as many as there were are x
+-- of `count` samples the first i are x
 pub record Filled (x : ℤ) (count : ℕ) (out : List ℤ) (i : ℕ) : Type 0 where
   pub long : length out ≡ count
   pub done : take i out ≡ replicate i x

@@ -1,4 +1,4 @@
--- What access to a block's samples answers. A block of `channels` times `size` samples stands channel after channel.
+-- What access to a block's samples answers. The `channels` times `size` samples are stored channel after channel.
 use Prim.Native.Nat.{ℕ, _+_, _*_}
 use mathlib.Core.Bool.{_&&_}
 use mathlib.Core.List.{List}
@@ -12,7 +12,7 @@ use Rattle.block.specs.declared.ChannelAt.{ChannelAt}
 use Rattle.block.specs.declared.SampleAt.{SampleAt}
 use Rattle.block.specs.declared.PairAt.{PairAt}
 
--- a channel of the block, and all its samples there
+-- the channel must be one of the block's, and n samples must be enough for the block
 unfoldable pub channelOf : ℕ → Block → ℕ → ChannelAt
 channelOf n b channel =
     if ltb channel (b .channels) && leb (b .channels * b .size) n then ChannelAt.Range (channel * b .size) (channel * b .size + b .size)

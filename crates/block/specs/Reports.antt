@@ -1,5 +1,4 @@
--- Document 01's number and values for each case of each answer: 0 and what was asked for, or the refusal's number and
--- zeros.
+-- Document 01's number and values for each answer: 0 and what was asked for, or the refusal's number and zeros.
 use Prim.Native.Nat.{ℕ}
 use lib.IntN.{ℤ, pos}
 use Rattle.error.specs.Numbers.{numberOf}

@@ -1,4 +1,4 @@
--- A byte more in a sum is a look-up in the table of the bytes' sums. Assumes nothing.
+-- The table of the bytes' sums: one more byte in a sum is one look-up in it. Assumes nothing.
 use Prim.Native.Nat.{ℕ, zero, suc, _+_, _*_, _-_, _/_, _%_, _^_, _≤_, _<_}
 use native.Mathlib.Nat.{zero-add, add-zero, suc-add, add-suc, div-one, mul-mod-left}
 use native.Mathlib.Omega.{arith}
@@ -32,7 +32,7 @@ module _ (w poly : ℕ) (table : List ℕ) (t : table ≡ byteSums w poly) where
       let place : bitXor (r / 2 ^ (w - 8)) b < 256 = xor-lt 8 (r / 2 ^ (w - 8)) b (shr-lt 8 (w - 8) (rw e hr)) hb in
       ap (λ (x : ℕ). bitXor x (r * 256 % 2 ^ w)) (entry (bitXor (r / 2 ^ (w - 8)) b) place) ∙ sym (crc-byte w poly r b hp hw hr)
 
--- a sum as wide as a byte has nothing to move up
+-- a sum of 8 bits has no lower bits to shift up
 pub look-up-8 : (poly : ℕ) (table : List ℕ) → table ≡ byteSums 8 poly → (r b : ℕ) → poly < 256 → r < 256 → b < 256
     → getD table (bitXor r b) 0 ≡ crcBits 8 poly r (bitsOfByte b)
 look-up-8 poly table t r b hp hr hb =

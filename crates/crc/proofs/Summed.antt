@@ -1,4 +1,4 @@
--- The loop's mark, over the width and the polynomial: the bytes before i are summed. Assumes nothing.
+-- The loops' invariant, for any width and polynomial: the bytes before i are summed. Assumes nothing.
 use Prim.Native.Nat.{ℕ, _+_, _≤_, _<_}
 use native.Mathlib.Numerals.{add-one}
 use native.Mathlib.Omega.{arith}

@@ -1,5 +1,4 @@
--- The check sums' laws, over the width and the polynomial: the sum of a list joined of two, and that n bits at once are a
--- look-up of n bits. Assumes nothing.
+-- Check sums of any width and polynomial: of a concatenation, and of n bits taken at once. Assumes nothing.
 use Prim.Native.Nat.{ℕ, zero, suc, _+_, _*_, _-_, _/_, _%_, _^_, _≤_, _<_}
 use native.Mathlib.Numerals.{one-add}
 use native.Mathlib.Omega.{arith}
@@ -11,20 +10,21 @@ use lib.Dec.{eqb}
 use lib.Pow.{pow-pos, field, shr-shr, shl-shr, shr-lt}
 use Rattle.reading.specs.Reading.{if_then_else_}
 use Rattle.reading.specs.Bytes.{bitsOfByte}
+use Rattle.reading.specs.Spelling.{bitsOf}
 use Rattle.rfc9639.specs.CheckSums.{crcBit, crcBits}
 use Rattle.rfc9639.proofs.CheckSums.{bit-below}
 use Rattle.crc.proofs.Xor.{xor-sum, xor-bit, xor-twice, xor-four, xor-back}
 
--- ---- a list joined of two
+-- ---- a concatenation
 
 pub crc-append : (w poly r : ℕ) (s t : List ℕ) → crcBits w poly r (s ++ t) ≡ crcBits w poly (crcBits w poly r s) t
 unfolding crcBits
 crc-append w poly r [] t = refl
 crc-append w poly r (b ∷ s) t = crc-append w poly (crcBit w poly r b) s t
 
--- ---- one bit more, as a sum
+-- ---- one more bit, as an XOR
 
--- the polynomial, or nothing
+-- the polynomial, or zero
 unfoldable fed : ℕ → ℕ → ℕ
 fed zero poly = zero
 fed (suc d) poly = poly
@@ -43,16 +43,7 @@ fed-xor (suc zero) (suc zero) poly h k = sym (xor-self poly)
 fed-xor (suc zero) (suc (suc e)) poly h k = absurd (omega arith)
 fed-xor (suc (suc d)) e poly h k = absurd (omega arith)
 
--- the n low bits of a number, most significant first
-unfoldable pub lowBits : ℕ → ℕ → List ℕ
-lowBits zero x = []
-lowBits (suc n) x = x / 2 ^ n % 2 ∷ lowBits n x
-
-pub byte-bits : (b : ℕ) → bitsOfByte b ≡ lowBits 8 b
-unfolding bitsOfByte lowBits
-byte-bits b = refl
-
--- a width of v and one more, as every width above 0 is
+-- the width is v + 1, as every width above 0 is
 module _ (v poly : ℕ) (hp : poly < 2 ^ suc v) where
   top-below : (r : ℕ) → r < 2 ^ suc v → r / 2 ^ v < 2
   top-below r h = shr-lt 1 v (rw (one-add v) h)
@@ -65,7 +56,7 @@ module _ (v poly : ℕ) (hp : poly < 2 ^ suc v) where
       ∙ fed-if ((r / 2 ^ v + b) % 2) (r * 2 % 2 ^ suc v) poly (omega arith)
       ∙ ap (λ (d : ℕ). bitXor (r * 2 % 2 ^ suc v) (fed d poly)) (sym (xor-sum (r / 2 ^ v) b (top-below r h) k))
 
-  -- ---- two inputs added have their sums added
+  -- ---- check sums are linear: the XOR of two inputs has the XOR of their sums
 
   bit-xor : (r q b c : ℕ) → r < 2 ^ suc v → q < 2 ^ suc v → b < 2 → c < 2
       → crcBit (suc v) poly (bitXor r q) (bitXor b c) ≡ bitXor (crcBit (suc v) poly r b) (crcBit (suc v) poly q c)
@@ -79,23 +70,23 @@ module _ (v poly : ℕ) (hp : poly < 2 ^ suc v) where
       ∙ sym (ap₂ bitXor (bit-is r b hr hb) (bit-is q c hq hc))
 
   crc-xor : (n r q x y : ℕ) → r < 2 ^ suc v → q < 2 ^ suc v
-      → crcBits (suc v) poly (bitXor r q) (lowBits n (bitXor x y)) ≡ bitXor (crcBits (suc v) poly r (lowBits n x)) (crcBits (suc v) poly q (lowBits n y))
-  unfolding crcBits lowBits
+      → crcBits (suc v) poly (bitXor r q) (bitsOf n (bitXor x y)) ≡ bitXor (crcBits (suc v) poly r (bitsOf n x)) (crcBits (suc v) poly q (bitsOf n y))
+  unfolding crcBits bitsOf
   crc-xor zero r q x y hr hq = refl
   crc-xor (suc n) r q x y hr hq =
-      ap (λ (s : ℕ). crcBits (suc v) poly s (lowBits n (bitXor x y)))
+      ap (λ (s : ℕ). crcBits (suc v) poly s (bitsOf n (bitXor x y)))
       (ap (crcBit (suc v) poly (bitXor r q)) (xor-bit x y n) ∙ bit-xor r q (x / 2 ^ n % 2) (y / 2 ^ n % 2) hr hq (omega arith) (omega arith))
       ∙ crc-xor n (crcBit (suc v) poly r (x / 2 ^ n % 2)) (crcBit (suc v) poly q (y / 2 ^ n % 2)) x y (bit-below (suc v) poly hp r (x / 2 ^ n % 2))
       (bit-below (suc v) poly hp q (y / 2 ^ n % 2))
 
-  -- ---- a sum's own upper bits shift it, and feed nothing
+  -- ---- a sum that is fed its own upper bits only shifts: the polynomial never enters
 
   bit-own : (r : ℕ) → r < 2 ^ suc v → crcBit (suc v) poly r (r / 2 ^ v) ≡ r * 2 % 2 ^ suc v
   unfolding fed
   bit-own r h =
       bit-is r (r / 2 ^ v) h (top-below r h) ∙ ap (λ (d : ℕ). bitXor (r * 2 % 2 ^ suc v) (fed d poly)) (xor-self (r / 2 ^ v)) ∙ xor-zero-r (r * 2 % 2 ^ suc v)
 
-  -- r after k shifts: its top bit, and one shift more
+  -- r after k shifts: its top bit, and the next shift
   shifted-top : (r k j : ℕ) → v ≡ k + j → r * 2 ^ k % 2 ^ suc v / 2 ^ v ≡ r / 2 ^ j % 2
   shifted-top r k j e =
       ap (λ (n : ℕ). r * 2 ^ k % 2 ^ n / 2 ^ v) (sym (one-add v)) ∙ field (r * 2 ^ k) 1 v
@@ -110,35 +101,35 @@ module _ (v poly : ℕ) (hp : poly < 2 ^ suc v) where
       ap (λ (y : ℕ). y % m) a ∙ sym (add-mod x x m) ∙ ap (λ (y : ℕ). y % m) (b ∙ mul-assoc r (2 ^ k) 2 ∙ ap (λ (y : ℕ). r * y) (sym (pow-suc 2 k)))
 
   crc-own : (n k m r : ℕ) → suc v ≡ k + (m + n)
-      → crcBits (suc v) poly (r * 2 ^ k % 2 ^ suc v) (lowBits n (r / 2 ^ m)) ≡ r * 2 ^ (k + n) % 2 ^ suc v
-  unfolding crcBits lowBits
+      → crcBits (suc v) poly (r * 2 ^ k % 2 ^ suc v) (bitsOf n (r / 2 ^ m)) ≡ r * 2 ^ (k + n) % 2 ^ suc v
+  unfolding crcBits bitsOf
   crc-own zero k m r e = ap (λ (n : ℕ). r * 2 ^ n % 2 ^ suc v) (omega arith)
   crc-own (suc n) k m r e =
       let x = r * 2 ^ k % 2 ^ suc v in
-      ap (λ (b : ℕ). crcBits (suc v) poly (crcBit (suc v) poly x b) (lowBits n (r / 2 ^ m)))
+      ap (λ (b : ℕ). crcBits (suc v) poly (crcBit (suc v) poly x b) (bitsOf n (r / 2 ^ m)))
       (ap (λ (y : ℕ). y % 2) (shr-shr r m n) ∙ sym (shifted-top r k (m + n) (omega arith)))
-      ∙ ap (λ (y : ℕ). crcBits (suc v) poly y (lowBits n (r / 2 ^ m))) (bit-own x (mod-lt (r * 2 ^ k) (pow-pos (suc v))) ∙ shifted-on r k)
+      ∙ ap (λ (y : ℕ). crcBits (suc v) poly y (bitsOf n (r / 2 ^ m))) (bit-own x (mod-lt (r * 2 ^ k) (pow-pos (suc v))) ∙ shifted-on r k)
       ∙ crc-own n (suc k) m r (omega arith) ∙ ap (λ (n : ℕ). r * 2 ^ n % 2 ^ suc v) (omega arith)
 
   looked-up : (n r x : ℕ) → n ≤ suc v → r < 2 ^ suc v
-      → crcBits (suc v) poly r (lowBits n x) ≡ bitXor (crcBits (suc v) poly 0 (lowBits n (bitXor (r / 2 ^ (suc v - n)) x))) (r * 2 ^ n % 2 ^ suc v)
+      → crcBits (suc v) poly r (bitsOf n x) ≡ bitXor (crcBits (suc v) poly 0 (bitsOf n (bitXor (r / 2 ^ (suc v - n)) x))) (r * 2 ^ n % 2 ^ suc v)
   looked-up n r x h hr =
       let t = r / 2 ^ (suc v - n) in
-      ap (λ (y : ℕ). crcBits (suc v) poly r (lowBits n y)) (sym (xor-back t x)) ∙ crc-xor n 0 r (bitXor t x) t (pow-pos (suc v)) hr
-      ∙ ap (bitXor (crcBits (suc v) poly 0 (lowBits n (bitXor t x))))
-      (ap (λ (y : ℕ). crcBits (suc v) poly y (lowBits n t)) (sym (ap (λ (y : ℕ). y % 2 ^ suc v) (mul-one r) ∙ mod-eq-of-lt hr))
+      ap (λ (y : ℕ). crcBits (suc v) poly r (bitsOf n y)) (sym (xor-back t x)) ∙ crc-xor n 0 r (bitXor t x) t (pow-pos (suc v)) hr
+      ∙ ap (bitXor (crcBits (suc v) poly 0 (bitsOf n (bitXor t x))))
+      (ap (λ (y : ℕ). crcBits (suc v) poly y (bitsOf n t)) (sym (ap (λ (y : ℕ). y % 2 ^ suc v) (mul-one r) ∙ mod-eq-of-lt hr))
       ∙ crc-own n 0 (suc v - n) r (omega arith) ∙ ap (λ (k : ℕ). r * 2 ^ k % 2 ^ suc v) (omega arith))
 
--- ---- n bits at once: the sum of the n upper bits of what was and the new ones, from nothing, and the lower bits moved up
+-- ---- n bits at once: the upper n bits XOR the new ones are summed from zero, and XORed with the lower bits shifted up
 
 pub crc-bits : (w poly n r x : ℕ) → poly < 2 ^ w → n ≤ w → r < 2 ^ w
-    → crcBits w poly r (lowBits n x) ≡ bitXor (crcBits w poly 0 (lowBits n (bitXor (r / 2 ^ (w - n)) x))) (r * 2 ^ n % 2 ^ w)
-unfolding crcBits lowBits
+    → crcBits w poly r (bitsOf n x) ≡ bitXor (crcBits w poly 0 (bitsOf n (bitXor (r / 2 ^ (w - n)) x))) (r * 2 ^ n % 2 ^ w)
+unfolding crcBits bitsOf
 crc-bits zero poly zero r x hp h hr = omega arith
 crc-bits zero poly (suc n) r x hp h hr = absurd (omega arith)
 crc-bits (suc v) poly n r x hp h hr = looked-up v poly hp n r x h hr
 
 pub crc-byte : (w poly r b : ℕ) → poly < 2 ^ w → 8 ≤ w → r < 2 ^ w
     → crcBits w poly r (bitsOfByte b) ≡ bitXor (crcBits w poly 0 (bitsOfByte (bitXor (r / 2 ^ (w - 8)) b))) (r * 256 % 2 ^ w)
-unfolding bitsOfByte lowBits
+unfolding bitsOfByte bitsOf
 crc-byte w poly r b hp h hr = crc-bits w poly 8 r b hp h hr

@@ -1,5 +1,4 @@
--- The sum of two numbers over the field of two elements, beyond what the library has of it: a bit of a sum, and that
--- sums may be regrouped. Assumes nothing.
+-- XOR, beyond what the library has of it: of single bits, of one bit of a number, regrouped. Assumes nothing.
 use Prim.Native.Nat.{ℕ, zero, suc, _+_, _*_, _/_, _%_, _^_, _<_}
 use native.Mathlib.Nat.{add-zero, add-assoc, mod-add-mod, add-mod-mod, mod-eq-of-lt}
 use native.Mathlib.Omega.{arith}
@@ -44,7 +43,7 @@ pub xor-twice : (a b : ℕ) → bitXor a b * 2 ≡ bitXor (a * 2) (b * 2)
 xor-twice a b =
     sym (add-zero (bitXor a b * 2)) ∙ sym (xor-block 1 a b 0 0 (pow-pos 1) (pow-pos 1)) ∙ ap₂ bitXor (add-zero (a * 2)) (add-zero (b * 2))
 
--- ---- in another order
+-- ---- regrouped
 
 pub xor-assoc : (a b c : ℕ) → bitXor (bitXor a b) c ≡ bitXor a (bitXor b c)
 xor-assoc =
@@ -62,6 +61,6 @@ xor-four a b c d =
     xor-assoc a b (bitXor c d) ∙ ap (bitXor a) (sym (xor-assoc b c d) ∙ ap (λ (x : ℕ). bitXor x d) (xor-comm b c) ∙ xor-assoc c b d)
     ∙ sym (xor-assoc a c (bitXor b d))
 
--- a number added twice is gone
+-- XOR with the same number twice cancels
 pub xor-back : (a b : ℕ) → bitXor (bitXor a b) a ≡ b
 xor-back a b = xor-comm (bitXor a b) a ∙ sym (xor-assoc a a b) ∙ ap (λ (x : ℕ). bitXor x b) (xor-self a)

@@ -1,4 +1,4 @@
--- A window that is filled read by read: what was held first stays. Assumes nothing.
+-- The invariant of `fill`: each read leaves the bytes that were held at first. Assumes nothing.
 use Prim.Native.Nat.{ℕ, _+_, _≤_, _<_}
 use native.Mathlib.Omega.{arith}
 use mathlib.Core.Path.{_≡_, refl, ap, sym, _∙_, subst}

@@ -1,4 +1,4 @@
--- The laws that the proofs of the functions cite.
+-- The laws that the functions' proofs cite.
 pub mod Shifting
 pub mod Filling
 pub mod Streams

@@ -1,5 +1,4 @@
--- What is listed of some bytes: answer by answer, by steps of a walk, and in a window that is only a part of the card.
--- Assumes nothing.
+-- What is listed of some bytes: by answers, by steps of `walk`, and in a window of the card. Assumes nothing.
 use Prim.Native.Nat.{ℕ, zero, suc, _+_, _≤_, _<_}
 use native.Mathlib.Omega.{arith}
 use mathlib.Core.Path.{_≡_, refl, ap, ap₂, sym, _∙_, subst}
@@ -53,7 +52,7 @@ module _ {one : List ℕ → Result} (law : Lawful one) where
   unfolding verdictOf
   other-shown place t s n = ap (listing place t) (unrolled law s) ∙ stop-listing place t (one s) _ (λ z. n (verdict-is z refl))
 
-  -- What a window shows, and what is then known of every card that goes on after it.
+  -- What is listed of a window, and what that says about every card that continues it.
   record Found (place : ℕ) (t : Totals) (w : List ℕ) : Type 0 where
     within : ℕ
     totals : Totals
@@ -69,7 +68,7 @@ module _ {one : List ℕ → Result} (law : Lawful one) where
     abbrev after : Totals
     after = counted t (one w .report .channels) (one w .report .size)
 
-    -- what is decided in the window is decided in the card
+    -- an answer that is decided in the window is the card's answer
     longer : (verdict (one w) ≡ undecided → ⊥) → (more : List ℕ) → one (w ++ more) ≡ one w
     longer known more = law .extended w more known
 
@@ -148,14 +147,14 @@ module _ {one : List ℕ → Result} (law : Lawful one) where
     alike : _≡_ {A = Listing} (record { place = place + f .within; totals = f .totals; number = f .number }) (record { place = place + k; totals = u; number = number })
     alike = sym (f .is) ∙ is
 
-    -- where more bytes may change the answer at a place, the card goes on from there
+    -- if more bytes may change the answer at a place, the list goes on from there
     pub goes-on-from : verdictOf number ≡ undecided → (more : List ℕ) → shown place t (w ++ more) ≡ shown (place + k) u (drop k w ++ more)
     goes-on-from e more =
         let same : f .within ≡ k = omega (arith, ap (λ (l : Listing). l .place) alike) in
         f .goes (ap verdictOf (ap (λ (l : Listing). l .number) alike) ∙ e) more
         ∙ ap₂ (λ m (v : Totals). shown (place + m) v (drop m w ++ more)) same (ap (λ (l : Listing). l .totals) alike)
 
-    -- where they cannot, they do not
+    -- if they cannot, the list is the same whatever follows
     pub stands-there : (verdictOf number ≡ undecided → ⊥) → (more : List ℕ) → shown place t (w ++ more) ≡ record { place = place + k; totals = u; number = number }
     stands-there known more = f .stands (λ e. known (sym (ap verdictOf (ap (λ (l : Listing). l .number) alike)) ∙ e)) more ∙ is
 

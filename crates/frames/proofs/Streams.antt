@@ -1,4 +1,4 @@
--- The word fLaC test by test, and metadata blocks one by one. Assumes nothing.
+-- Stream headers: the word fLaC byte by byte, and the metadata blocks one by one. Assumes nothing.
 use Prim.Native.Nat.{ℕ, suc, zero, _+_, _-_, _≤_, _<_}
 use native.Mathlib.Omega.{arith}
 use mathlib.Core.Path.{_≡_, refl, ap, sym, _∙_}
@@ -30,7 +30,7 @@ module _ (s : List ℕ) where
         pub by-c : getD s 2 0 ≡ 97 → eqb (getD s 3 0) 67 ≡ marked s
         by-c a = rw (le-ltb (length s) 4 h, eq-eqb (getD s 0 0) 102 f, eq-eqb (getD s 1 0) 76 l, eq-eqb (getD s 2 0) 97 a)
 
--- fLaC has four bytes
+-- the word fLaC has four bytes
 pub marked-long : (s : List ℕ) → marked s ≡ true → 4 ≤ length s
 marked-long s e = go (ltb (length s) 4) refl
   where

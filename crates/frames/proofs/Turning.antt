@@ -1,4 +1,4 @@
--- A turn goes further, and what is listed of the card stays what it was. Assumes nothing.
+-- Turns: each one reads further, and what is listed of the card stays the same. Assumes nothing.
 use Prim.Native.Nat.{ℕ, _+_, _-_, _*_, _^_, _≤_, _<_}
 use native.Mathlib.Omega.{arith}
 use mathlib.Core.Path.{_≡_, refl, ap, ap₂, sym, _∙_, subst}
@@ -31,7 +31,7 @@ module _ (was : List ℕ) (card : Card) (place : ℕ) (e : Refusal) (sound : Sou
   one-pending : pending (card .rest) ≡ 1
   one-pending = ap pending more
 
-  -- where the window is full the place is its front
+  -- if the window is full, the place is its front
   pub full-refills : card .held - place ≡ length was → (r : Turn) → Stays card place r → Refills was card place e r was
   full-refills full (Turn.Over last) s =
       record { card = ap (λ (l : Last). l .card) s; place = ap (λ (l : Last). l .place) s; how = subst (λ (l : Last). Wanting e (l .how)) (sym s) tt }
@@ -65,7 +65,7 @@ module _ (was : List ℕ) (card : Card) (place : ℕ) (e : Refusal) (sound : Sou
       further = omega (arith, less (filled .rest) (fills .enough), one-pending);
     }
 
--- ---- what a refusal asks for, and its kind
+-- ---- what a refusal asks of the caller, as a verdict
 
 unfoldable pub verdictFor : Need → Verdict
 verdictFor Need.Wait = undecided
@@ -190,7 +190,7 @@ module _ (room room′ : ℕ) (e : room ≡ room′) (was : List ℕ) (card : Ca
   pub stopped : (last : Last) (left : List ℕ) (r : Turn) → r ≡ Turn.Over last → Turns room was card r left → Stops room′ was card last
   stopped last left r is h = subst (λ n. Stops n was card last) e (subst (λ (t : Turn). Turns room was card t left) is h)
 
--- the bytes that were read, and that the window and those before it show all of them
+-- the invariant: listing the bytes read so far is listing the window, with the totals before it
 pub record SoFar (room : ℕ) (w : List ℕ) (card : Card) : Type 0 where
   pub seen : List ℕ
   pub long : length seen ≡ card .base + card .held
@@ -201,7 +201,7 @@ pub begin : (room : ℕ) (w : List ℕ) → SoFar room w (record { base = 0; hel
 begin room w = record { seen = []; long = refl; same = λ more. refl }
 
 module _ (room : ℕ) (w : List ℕ) (card : Card) (far : SoFar room w card) where
-  -- further with each turn
+  -- a turn that goes on keeps it
   pub on : (next : Card) (left : List ℕ) → Carries room w card next left → SoFar room left next
   on next left c = record {
     seen = far .seen ++ c .brought;
@@ -223,7 +223,7 @@ module _ (room : ℕ) (w : List ℕ) (card : Card) (far : SoFar room w card) whe
   all-told last How.TooLong h = record { rest = h .rest; same = λ more. far .same more ∙ h .same more }
   all-told last How.TooFar h = record { rest = h .rest; same = λ more. far .same more ∙ h .same more }
 
-  -- to the last
+  -- a turn that ends the run gives the promise of the whole run
   pub over : (width : ℕ) → Sound card width → (last : Last) → Stops room w card last → Runs room last width
   over width sound last s = record {
     seen = far .seen;

@@ -1,5 +1,5 @@
--- How far a card has been read, that each turn goes further, and that a turn leaves what is listed of the card as it
--- was.
+-- How far a card has been read. Each turn, one pass over the window, reads further, and does not change what is listed
+-- of the card as a whole.
 use Prim.Native.Nat.{ℕ, _+_, _-_, _*_, _^_, _≤_, _<_}
 use mathlib.Core.Path.{_≡_}
 use mathlib.Core.List.{List, [], _++_}
@@ -14,23 +14,24 @@ use Rattle.frames.specs.declared.Last.{Last}
 use Rattle.frames.specs.declared.Turn.{Turn}
 use Rattle.frames.specs.Listing.{Listing, listed}
 
--- what is held is in the window, and every place of the window has a number on the card
+-- the bytes held fit the window, and 64 bits can number every place of the window on the card
 pub record Sound (card : Card) (room : ℕ) : Type 0 where
   pub inside : card .held ≤ room
   pub numbered : card .base + room < 2 ^ 64
 
+-- 1 if there may be more of the card to read
 abbrev pub pending : Rest → ℕ
 pending Rest.More = 1
 pending Rest.Ended = 0
 pending (Rest.Failed error) = 0
 
--- how much may still be read: it falls with each turn, since a turn brings a byte or finds out that there are no more
+-- how much may still be read: it falls with each turn, since a turn reads a byte or finds that there are no more
 abbrev pub ahead : Card → ℕ
 ahead card = (2 ^ 64 - (card .base + card .held)) * 2 + pending (card .rest)
 
 -- ---- the window's bytes
 
--- After a refill the window goes on where the card was left: the bytes from the place on stand at its front.
+-- After a refill the window starts at the place where reading stopped: the bytes from there on are at its front.
 pub record Continues (was : List ℕ) (card : Card) (place : ℕ) (next : Card) (left : List ℕ) : Type 0 where
   pub bytes : take (card .held - place) left ≡ take (card .held - place) (drop place was)
   pub least : card .held - place ≤ next .held
@@ -39,7 +40,7 @@ pub record Continues (was : List ℕ) (card : Card) (place : ℕ) (next : Card) 
   pub sound : Sound next (length was)
   pub further : ahead next < ahead card
 
--- where the run ends for want of bytes it ends at that place, and with that refusal if the card does
+-- how a run may end for lack of bytes: with this refusal, if the card ends
 abbrev pub Wanting : Refusal → How → Type 0
 Wanting e (How.Ended x) = x ≡ e
 Wanting e (How.Refused x) = ⊥
@@ -52,7 +53,7 @@ pub record Closes (c : Card) (at : ℕ) (e : Refusal) (last : Last) : Type 0 whe
   pub place : last .place ≡ at
   pub how : Wanting e (last .how)
 
--- the window as it is, with no more after it, or the end since there is more
+-- the window is full: the run goes on with it if the card ends there, and is over if there is more
 abbrev pub Stays : Card → ℕ → Turn → Type 0
 Stays card place (Turn.On next) =
     (next .base ≡ card .base) × (next .held ≡ card .held) × (next .totals ≡ card .totals) × (pending (next .rest) ≡ 0)
@@ -64,7 +65,7 @@ Refills was card place e (Turn.Over last) left = Closes card place e last
 
 -- ---- what is listed
 
--- A turn that goes on read some bytes; whatever follows them, what is listed from there on is what was to be listed.
+-- A turn that goes on has read some bytes. Whatever follows them, the rest of the list is unchanged.
 pub record Carries (room : ℕ) (was : List ℕ) (card next : Card) (left : List ℕ) : Type 0 where
   pub brought : List ℕ
   pub long : next .base + next .held ≡ card .base + card .held + length brought
@@ -74,17 +75,17 @@ pub record Carries (room : ℕ) (was : List ℕ) (card next : Card) (left : List
   pub sound : Sound next (length was)
   pub further : ahead next < ahead card
 
--- the run's end, with a refusal
+-- what is listed by a run that ends with a refusal
 abbrev pub ending : Last → Refusal → Listing
 ending last e = record { place = last .card .base + last .place; totals = last .card .totals; number = numberOf e }
 
--- the frames are listed up to the run's end, and others may follow
+-- the frames up to the run's end are listed, and others may follow
 pub record Unfinished (room place : ℕ) (t : Totals) (s : List ℕ) (last : Last) : Type 0 where
   pub rest : List ℕ
   pub same : (more : List ℕ) → listed room place t (s ++ more) ≡ listed room (last .card .base + last .place) (last .card .totals) (rest ++ more)
 
--- What the run's end says of bytes from a place of the card on: where the card ends after them, that this is all of it;
--- of a refusal, that it stands whatever follows; else that nothing was left out so far.
+-- What the run's end says about the bytes from a place of the card on. If the card ends after them, this is all that is
+-- listed of it; after a refusal, it is so whatever follows; otherwise nothing was left out so far.
 abbrev pub Told : ℕ → ℕ → Totals → List ℕ → Last → How → Type 0
 Told room place t s last (How.Ended e) = listed room place t s ≡ ending last e
 Told room place t s last (How.Refused e) = (more : List ℕ) → listed room place t (s ++ more) ≡ ending last e
@@ -92,7 +93,7 @@ Told room place t s last (How.Unread error) = Unfinished room place t s last
 Told room place t s last How.TooLong = Unfinished room place t s last
 Told room place t s last How.TooFar = Unfinished room place t s last
 
--- A turn that ends the run: in this window.
+-- A turn that ends the run ends it in this window.
 pub record Stops (room : ℕ) (was : List ℕ) (card : Card) (last : Last) : Type 0 where
   pub base : last .card .base ≡ card .base
   pub held : last .card .held ≡ card .held
@@ -103,7 +104,7 @@ abbrev pub Turns : ℕ → List ℕ → Card → Turn → List ℕ → Type 0
 Turns room was card (Turn.On next) left = Carries room was card next left
 Turns room was card (Turn.Over last) left = Stops room was card last
 
--- The whole run: what its end says of the bytes that were read.
+-- The whole run: its end is right about all the bytes that were read.
 pub record Runs (room : ℕ) (last : Last) (width : ℕ) : Type 0 where
   pub seen : List ℕ
   pub long : length seen ≡ last .card .base + last .card .held

@@ -1,4 +1,4 @@
--- What the contracts cite: reads into the window, what is listed of a card, how far it has been read, stream headers.
+-- Definitions for the contracts: reads into the window, what is listed of a card, how far it is read, stream headers.
 pub mod Window
 pub mod Listing
 pub mod Cards

@@ -1,5 +1,5 @@
--- A stream header (RFC 9639 sections 6 and 8): the word fLaC and metadata blocks. A block has four bytes before it: in
--- the first the highest bit is set for the last block, and the other three are the block's length.
+-- A stream header (RFC 9639 sections 6 and 8): the word fLaC and metadata blocks. Each block has a header of four
+-- bytes. The highest bit of the first byte marks the last block, and the other three bytes are the block's length.
 use Prim.Native.Nat.{ℕ, suc, zero, _+_, _-_, _*_}
 use mathlib.Core.Bool.{Bool, true, false}
 use mathlib.Core.List.{List}
@@ -17,7 +17,7 @@ marked s =
 abbrev pub blockLength : List ℕ → ℕ → ℕ
 blockLength s place = getD s (place + 1) 0 * 65536 + getD s (place + 2) 0 * 256 + getD s (place + 3) 0
 
--- the metadata blocks from a place on, so many of them at most
+-- the metadata blocks from a place on, at most n of them
 unfoldable pub blocks : ℕ → List ℕ → ℕ → Opening
 blocks zero s place = Opening.Header
 blocks (suc n) s place =
@@ -27,6 +27,6 @@ blocks (suc n) s place =
     else
     (if leb 128 (getD s place 0) then Opening.HeaderTo (place + 4 + blockLength s place) else blocks n s (place + 4 + blockLength s place)))
 
--- what the card starts with; there are no more blocks than bytes
+-- what the card starts with; there cannot be more blocks than bytes
 unfoldable pub openingOf : List ℕ → Opening
 openingOf s = if marked s then blocks (length s) s 4 else Opening.Other

@@ -7,25 +7,25 @@ use Rattle.frames.specs.declared.window.Got.{Got}
 use Rattle.frames.specs.declared.window.Rest.{Rest}
 use Rattle.frames.specs.declared.window.Filled.{Filled}
 
--- what a read brought is a byte at least, and stands in the window, after those that were held
+-- a read that succeeds brings at least one byte, and its bytes fit the window after those held
 abbrev pub Brought : Got → ℕ → ℕ → Type 0
 Brought (Got.Bytes n) held room = (0 < n) × (held + n ≤ room)
 Brought Got.Ended held room = Unit {0}
 Brought Got.Interrupted held room = Unit {0}
 Brought (Got.Failed error) held room = Unit {0}
 
--- A read: what was held stays.
+-- A read leaves the bytes that were held.
 pub record ReadAfter (was : List ℕ) (held : ℕ) (r : Got) (left : List ℕ) : Type 0 where
   pub kept : take held left ≡ take held was
   pub brought : Brought r held (length was)
 
--- what is wanted is there, where more may follow
+-- if more may follow, then at least the wanted bytes are held
 abbrev pub Enough : Rest → ℕ → ℕ → Type 0
 Enough Rest.More wanted held = wanted ≤ held
 Enough Rest.Ended wanted held = Unit {0}
 Enough (Rest.Failed error) wanted held = Unit {0}
 
--- A fill: what was held stays, and what is held is in the window.
+-- A fill leaves the bytes that were held, and all bytes held afterwards fit the window.
 pub record Fills (was : List ℕ) (before wanted : ℕ) (r : Filled) (left : List ℕ) : Type 0 where
   pub kept : take before left ≡ take before was
   pub least : before ≤ r .held

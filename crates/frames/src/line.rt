@@ -1,11 +1,11 @@
-// A line of text that is built up in an array and written in one piece: a write for each word would be slow.
+// A line of text that is built up in an array and written at once: one write per word would be slow.
 use libc::STDOUT_FILENO;
 ghost use Rattle.io.specs.Counts.{Counts};
 
-// More than the longest line that is written.
+// Longer than any line that is written.
 pub const LINE: usize = 256;
 
-// Puts a text into the line from a place on, and answers the place after it. What there is no room for is left out.
+// Puts a text into the line at a place, and returns the place after it. Text that does not fit is left out.
 fn put_in(line: &mut [u8], start: usize, text: &[u8]) -> usize
     ensures { λ r. ⌜ Counts r (now (line .exit)) ⌝ }
 {
@@ -22,13 +22,14 @@ fn put_in(line: &mut [u8], start: usize, text: &[u8]) -> usize
     n
 }
 
+// The same, for a line of the usual length.
 pub fn put(line: &mut [u8; LINE], start: usize, text: &[u8]) -> usize
     ensures { λ r. ⌜ Counts r (now (line .exit)) ⌝ }
 {
     put_in(line, start, text)
 }
 
-// The same for a number's decimal digits.
+// The same, for a number's decimal digits.
 pub fn put_number(line: &mut [u8; LINE], start: usize, number: u64) -> usize
     ensures { λ r. ⌜ Counts r (now (line .exit)) ⌝ }
 {
@@ -37,7 +38,7 @@ pub fn put_number(line: &mut [u8; LINE], start: usize, number: u64) -> usize
     put(line, start, &digits[..n])
 }
 
-// The same for a text and the number after it.
+// The same, for a text and a number after it.
 pub fn put_field(line: &mut [u8; LINE], start: usize, text: &[u8], number: u64) -> usize
     ensures { λ r. ⌜ Counts r (now (line .exit)) ⌝ }
 {
@@ -45,7 +46,7 @@ pub fn put_field(line: &mut [u8; LINE], start: usize, text: &[u8], number: u64) 
     put_number(line, n, number)
 }
 
-// Writes the line up to a place, and the line's end.
+// Writes the line up to a place, and a newline.
 pub fn write_line(line: &mut [u8; LINE], end: usize) {
     let n = put(line, end, b"\n");
     let text: &[u8] = line;

@@ -1,17 +1,17 @@
-// The frames of a card, for people: of the file that the first argument names, or of standard input where none is named,
-// a line for each frame, and a last line that says how many frames and samples there were and how it ended.
+// Lists the frames of a card for people to read. The card is the file that the first argument names, or standard input
+// if there is none. Each frame gets a line; a last line says how many frames and samples there were, and how it ended.
 //
-// The last line starts with one of these words, for a script to take its status from:
+// The last line starts with one of these words, from which a script can take its status:
 //     ended:     the card ends after a frame
 //     empty:     the card has no bytes
-//     stopped:   what stands at a place of the card is no frame: the refusal's number, and its cause
-//     unread:    the card could not be opened or read: the system's number for the error
-//     limit:     a limit of this program ended the run, and not the card
-// After it come 'frames N, samples M; ' (M is the sum of channels times block size, and 2^64 - 1 where it is more).
+//     stopped:   something on the card is no frame: the refusal's number and its cause
+//     unread:    the card could not be opened or read: the system's error number
+//     limit:     a limit of this program ended the run, not the card
+// Then comes 'frames N, samples M; ' (M is the sum of channels times block size, but at most 2^64 - 1).
 //
-// The card may have any length: it goes through a window that is refilled. A refusal that more bytes may change is said
-// only where the card has ended, and any other at once, since no bytes change it. That the window changes nothing is
-// proved: what the run comes to is what the definition's answers to all of the card's bytes come to (`Runs`).
+// The card may have any length: it is read through a window that is refilled. A refusal that more bytes may change is
+// reported only at the end of the card; any other is reported at once. The window makes no difference, which is proved:
+// the run lists what the definition's answers to all of the card's bytes list (`Runs`).
 mod line;
 mod report;
 mod stream;
@@ -30,21 +30,21 @@ ghost use Rattle.frames.specs.declared.window.Rest.{Rest as RestOf};
 ghost use Rattle.frames.specs.Listing.{capped, Lists};
 ghost use Rattle.frames.specs.Cards.{Sound, Stays, Refills, Turns, Runs};
 
-// Bytes of the card that are at hand at a time. Eight channels of 65,535 samples of 24 bits stored verbatim take
-// 1,572,866 bytes at most.
+// How many bytes of the card are in memory at a time. Eight channels of 65,535 verbatim samples of 24 bits take at most
+// 1,572,866.
 pub const WINDOW: usize = 2097152;
 
-// Room for eight channels of 65,535 samples, so that no frame has more.
+// Room for eight channels of 65,535 samples, which no frame exceeds.
 const ROOM: usize = 524280;
 
-// How many frames there were, and how many samples in them.
+// How many frames there were, and how many samples they had.
 pub struct Totals {
     pub frames: u64,
     pub samples: u64,
 }
 
 // How far the card has been read: the place on the card of the window's first byte, how many bytes the window holds,
-// what comes after them, and how much there was before the window.
+// what follows them, and the totals of the frames before the window.
 pub struct Card {
     pub base: u64,
     pub held: usize,
@@ -52,7 +52,7 @@ pub struct Card {
     pub totals: Totals,
 }
 
-// The frames in a window: the place after them, why what stands there is no frame, and how much there was up to there.
+// The frames in a window: the place after the last one, why no frame was read there, and the totals up to there.
 pub struct Listed {
     pub place: usize,
     pub refusal: Refusal,
@@ -61,19 +61,19 @@ pub struct Listed {
 
 // How the run ended.
 pub enum How {
-    // The card ends, with nothing left or in the middle of a frame.
+    // The card ends here, after a frame or in the middle of one.
     Ended(Refusal),
-    // What stands there is no frame, whatever follows.
+    // There is no frame here, whatever bytes follow.
     Refused(Refusal),
-    // A read failed, with the system's number.
+    // A read failed, with the system's error number.
     Unread(i32),
-    // What stands there fills the window, and the card goes on.
+    // The bytes from here on fill the window without deciding the answer, and the card goes on.
     TooLong,
-    // The card goes on past the places that have a number of 64 bits.
+    // The card goes on past the places that 64 bits can number.
     TooFar,
 }
 
-// Where the run ended: the window, with how much there was up to a place of it, that place, and how.
+// Where the run ended: the window, with the totals up to a place in it; that place; and how.
 pub struct Last {
     pub card: Card,
     pub place: usize,
@@ -86,19 +86,20 @@ pub enum Turn {
     Over(Last),
 }
 
-// A card that was opened, or the system's number for why not.
+// An open card, or the system's error number.
 pub enum Opened {
     At(i32),
     Failed(i32),
 }
 
+// A sum that stops at the largest number of 64 bits.
 fn sum(a: u64, b: u64) -> u64
     ensures { λ r. ⌜ r ≡ capped (a + b) ⌝ }
 {
     if b <= u64::MAX - a { a + b } else { u64::MAX }
 }
 
-// Lists the frames that stand whole in the bytes, whose first is at `base` on the card.
+// Lists the frames that are complete within the bytes. The first byte is at `base` on the card.
 fn list_frames(bytes: &[u8], base: u64, before: Totals, samples: &mut [i32]) -> Listed
     requires { ⌜ base + length (now bytes) < 2 ^ 64 ⌝ }
     ensures { λ r. ⌜ Lists (now (bytes .entry)) base before (length (now (samples .entry))) r ⌝ }
@@ -128,14 +129,14 @@ fn list_frames(bytes: &[u8], base: u64, before: Totals, samples: &mut [i32]) -> 
     }
 }
 
-// What comes after a window that is full.
+// What follows on the card when the window is full.
 fn rest_after(fd: i32) -> Rest {
     let mut one = [0u8; 1];
     let next = window::fill(fd, &mut one, 0, 1);
     next.rest
 }
 
-// The window is full from this place on, which is its front, of what may be one frame.
+// What may be one frame fills the whole window, so `place` is 0 here.
 fn full(card: Card, place: usize, rest: Rest) -> Turn
     ensures { λ r. ⌜ Stays card place r ⌝ }
 {
@@ -161,7 +162,7 @@ fn full(card: Card, place: usize, rest: Rest) -> Turn
     }
 }
 
-// More of the card, after what the window holds from a place on.
+// Keeps what the window holds from a place on, and reads more of the card after it.
 fn go_on(fd: i32, card: Card, place: usize, e: Refusal, window: &mut [u8]) -> Turn
     requires { ⌜ Sound card (length (now window)) × (place ≤ card .held) × (card .rest ≡ RestOf.More) ⌝ }
     ensures { λ r. ⌜ Refills (now (window .entry)) card place e r (now (window .exit)) ⌝ }
@@ -191,7 +192,7 @@ fn go_on(fd: i32, card: Card, place: usize, e: Refusal, window: &mut [u8]) -> Tu
     })
 }
 
-// The frame at this place of the window is not there whole.
+// The frame at this place of the window is not complete.
 fn wait(fd: i32, card: Card, place: usize, e: Refusal, window: &mut [u8]) -> Turn
     requires { ⌜ Sound card (length (now window)) × (place ≤ card .held) ⌝ }
     ensures { λ r. ⌜ Refills (now (window .entry)) card place e r (now (window .exit)) ⌝ }
@@ -212,7 +213,7 @@ fn wait(fd: i32, card: Card, place: usize, e: Refusal, window: &mut [u8]) -> Tur
     }
 }
 
-// Lists the frames in the window, and has more of the card in it for those after them.
+// Lists the frames in the window, and refills it for those that follow.
 fn advance(fd: i32, card: Card, window: &mut [u8], samples: &mut [i32]) -> Turn
     requires { ⌜ Sound card (length (now window)) ⌝ }
     ensures { λ r. ⌜ Turns (length (now (samples .entry))) (now (window .entry)) card r (now (window .exit)) ⌝ }
@@ -268,7 +269,7 @@ fn read_card(fd: i32, window: &mut [u8], samples: &mut [i32]) -> Last
     }
 }
 
-// What the card starts with, where its first byte is no frame's.
+// What a card starts with that does not start with a frame.
 fn read_opening(fd: i32, window: &mut [u8], held: usize) -> Opening
     requires { ⌜ (held ≤ length (now window)) × (4 ≤ length (now window)) ⌝ }
 {
@@ -282,7 +283,7 @@ fn read_opening(fd: i32, window: &mut [u8], held: usize) -> Opening
     stream::opening_of(&window[..n])
 }
 
-// What stands at a place of the card is no frame, whatever follows.
+// There is no frame at a place of the card, whatever bytes follow.
 fn refuse(fd: i32, card: Card, at: u64, e: Refusal, window: &mut [u8])
     requires { ⌜ Sound card (length (now window)) × (4 ≤ length (now window)) ⌝ }
 {
@@ -295,7 +296,7 @@ fn refuse(fd: i32, card: Card, at: u64, e: Refusal, window: &mut [u8])
     report::refused(totals, at, e, opening);
 }
 
-// The last line.
+// Writes the last line.
 fn tell(fd: i32, last: Last, window: &mut [u8])
     requires { ⌜ Sound (last .card) (length (now window)) × (last .place ≤ last .card .held) × (4 ≤ length (now window)) ⌝ }
 {
@@ -319,12 +320,12 @@ fn list_card(fd: i32, window: &mut [u8], samples: &mut [i32])
     tell(fd, last, window);
 }
 
-// The arrays are made slices here, and not where they stand.
+// Turns the arrays into slices, away from the function that owns them.
 fn list_into(fd: i32, window: &mut [u8; WINDOW], samples: &mut [i32; ROOM]) {
     list_card(fd, window, samples);
 }
 
-// The card that the first argument names.
+// Opens the card that the first argument names.
 fn open_card() -> Opened {
     let mut path = io::buffer();
     let n = os::arg(1, &mut path);

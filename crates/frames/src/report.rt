@@ -1,4 +1,4 @@
-// What the program says: a line for each frame, and a last line that says how it ended.
+// The lines that the program writes: one for each frame, and a last one that says how it ended.
 use crate::Totals;
 use crate::WINDOW;
 use crate::line::LINE;
@@ -11,7 +11,7 @@ use error::Refusal;
 use frame::Accepted;
 ghost use Rattle.io.specs.Counts.{Counts};
 
-// A frame, by its place on the card.
+// Writes a frame's line; `at` is its place on the card.
 pub fn frame_line(at: u64, f: Accepted) {
     let mut line = [0u8; LINE];
     let n = put_field(&mut line, 0, b"frame at byte ", at);
@@ -23,7 +23,7 @@ pub fn frame_line(at: u64, f: Accepted) {
     write_line(&mut line, n);
 }
 
-// A last line's beginning: how it ended, in one word, and how much there was.
+// The beginning of a last line: how it ended, in one word, and the totals.
 fn put_start(line: &mut [u8; LINE], word: &[u8], t: Totals) -> usize
     ensures { λ r. ⌜ Counts r (now (line .exit)) ⌝ }
 {
@@ -53,7 +53,7 @@ fn put_cause(line: &mut [u8; LINE], start: usize, e: Refusal) -> usize
     }
 }
 
-// What the start of the card is, where it is no frame.
+// What the card starts with, if it does not start with a frame.
 fn put_opening(line: &mut [u8; LINE], start: usize, o: Opening) -> usize
     ensures { λ r. ⌜ Counts r (now (line .exit)) ⌝ }
 {
@@ -73,7 +73,7 @@ fn put_opening(line: &mut [u8; LINE], start: usize, o: Opening) -> usize
     }
 }
 
-// The card ends after a frame, or has no bytes, or is cut short.
+// The card ends after a frame, has no bytes, or is cut short.
 pub fn ended(t: Totals, at: u64, e: Refusal) {
     match e {
         Refusal::NothingLeft => {
@@ -101,7 +101,7 @@ fn empty(t: Totals) {
     write_line(&mut line, n);
 }
 
-// What stands at this place of the card is refused whatever follows, by the card itself or for want of room.
+// The bytes at this place of the card are refused, whatever follows: for what they are, or for lack of room.
 pub fn refused(t: Totals, at: u64, e: Refusal, o: Opening) {
     let need = error::needs(e);
     match need {
@@ -133,7 +133,7 @@ fn no_room(t: Totals, at: u64) {
     write_line(&mut line, n);
 }
 
-// The system's number for an error. None is negative.
+// The system's error number, which is never negative.
 fn error_number(error: i32) -> u64 {
     if 0 <= error {
         return error as u64;
@@ -141,7 +141,7 @@ fn error_number(error: i32) -> u64 {
     0
 }
 
-// The beginning of a last line where nothing was read.
+// The beginning of a last line if nothing was read.
 fn put_nothing(line: &mut [u8; LINE]) -> usize
     ensures { λ r. ⌜ Counts r (now (line .exit)) ⌝ }
 {
@@ -185,7 +185,7 @@ pub fn unread(t: Totals, at: u64, error: i32) {
     write_line(&mut line, n);
 }
 
-// What stands at this place of the card may be a frame, and the window is too small for it.
+// There may be a frame at this place of the card, but the window is too small for it.
 pub fn too_long(t: Totals, at: u64) {
     let mut line = [0u8; LINE];
     let n = put_start(&mut line, b"limit:", t);
@@ -200,7 +200,7 @@ pub fn too_long(t: Totals, at: u64) {
     write_line(&mut line, n);
 }
 
-// Places of the card are counted in 64 bits.
+// The card is longer than 64 bits can count.
 pub fn too_far(t: Totals, at: u64) {
     let mut line = [0u8; LINE];
     let n = put_start(&mut line, b"limit:", t);

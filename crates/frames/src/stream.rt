@@ -1,5 +1,5 @@
-// A stream header at the start of the card (RFC 9639 sections 6 and 8): the word fLaC and metadata blocks. It is told
-// from garbage and passed over, to say where the frames start. It is not read yet.
+// A stream header at the start of the card (RFC 9639 sections 6 and 8): the word fLaC and metadata blocks. It is
+// recognised and skipped, only to say where the frames start. Its contents are not read yet.
 ghost use Prim.Native.Nat.{_+_, _≤_, _<_};
 ghost use mathlib.Core.Path.{_≡_};
 ghost use lib.ListN.{length};
@@ -8,7 +8,7 @@ ghost use Rattle.frames.specs.Stream.{marked, blockLength, openingOf};
 pub enum Opening {
     // No stream header.
     Other,
-    // A stream header that does not end within the bytes.
+    // A stream header that goes on past the bytes.
     Header,
     // A stream header, and the place after it.
     HeaderTo(usize),
@@ -33,13 +33,14 @@ pub fn is_header(bytes: &[u8]) -> bool
     bytes[3] == b'C'
 }
 
+// A byte as a number to calculate with.
 fn wide(b: u8) -> usize
     ensures { λ r. ⌜ (r ≡ b) × (r < 256) ⌝ }
 {
     b as usize
 }
 
-// The length of the metadata block whose four bytes before it stand at a place.
+// The length of the metadata block whose header of four bytes is at a place.
 fn block_length(bytes: &[u8], place: usize) -> usize
     requires { ⌜ place + 4 ≤ length (now bytes) ⌝ }
     ensures { λ r. ⌜ r ≡ blockLength (now (bytes .entry)) place ⌝ }
@@ -47,7 +48,7 @@ fn block_length(bytes: &[u8], place: usize) -> usize
     wide(bytes[place + 1]) * 65536 + wide(bytes[place + 2]) * 256 + wide(bytes[place + 3])
 }
 
-// What the bytes at the card's start are.
+// What the card starts with, by its first bytes.
 pub fn opening_of(bytes: &[u8]) -> Opening
     ensures { λ r. ⌜ r ≡ openingOf (now (bytes .entry)) ⌝ }
 {

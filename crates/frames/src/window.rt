@@ -1,12 +1,12 @@
-// The window on the card: what is not read yet moves to its front, and more of the card is read in after it.
+// The window on the card: bytes that are still needed move to its front, and more of the card is read in after them.
 use libc::EINTR;
 ghost use Prim.Native.Nat.{_-_, _≤_, _<_};
 ghost use mathlib.Core.Path.{_≡_};
 ghost use lib.ListN.{length, take, drop};
 ghost use Rattle.frames.specs.Window.{ReadAfter, Fills};
 
-// What one read did: it brought so many bytes; the card has ended; it was interrupted; or it failed, with the system's
-// number.
+// What one system read did: it read that many bytes, found the end of the card, was interrupted, or failed with the
+// system's error number.
 pub enum Got {
     Bytes(usize),
     Ended,
@@ -14,24 +14,24 @@ pub enum Got {
     Failed(i32),
 }
 
-// What comes after the bytes that the window holds: more, perhaps; the card's end; or a read that failed, with the
-// system's number.
+// What follows the bytes that the window holds: perhaps more; the end of the card; or a failed read, with the system's
+// error number.
 pub enum Rest {
     More,
     Ended,
     Failed(i32),
 }
 
-// How many bytes the window holds, and what comes after them.
+// How many bytes the window holds, and what follows them.
 pub struct Filled {
     pub held: usize,
     pub rest: Rest,
 }
 
-// How often a read that was interrupted is made again, between two that bring something.
+// How often one fill tries again after an interrupted read.
 const TRIES: u32 = 1000000;
 
-// The bytes from `used` to `held` stand at the front afterwards.
+// Moves the bytes from `used` to `held` to the front.
 pub fn shift(window: &mut [u8], used: usize, held: usize)
     requires { ⌜ (used ≤ held) × (held ≤ length (now window)) ⌝ }
     ensures { λ _. ⌜ take (held - used) (now (window .exit)) ≡ take (held - used) (drop used (now (window .entry))) ⌝ }
@@ -47,7 +47,7 @@ pub fn shift(window: &mut [u8], used: usize, held: usize)
     }
 }
 
-// One read after the bytes that are held, which stay as they are.
+// One read, into the window after the bytes it holds. Those stay as they are.
 fn read_once(fd: i32, window: &mut [u8], held: usize) -> Got
     requires { ⌜ held < length (now window) ⌝ }
     ensures { λ r. ⌜ ReadAfter (now (window .entry)) held r (now (window .exit)) ⌝ }
@@ -67,7 +67,7 @@ fn read_once(fd: i32, window: &mut [u8], held: usize) -> Got
     Got::Bytes(n)
 }
 
-// Reads on after the bytes that are held, which stay as they are, until `wanted` bytes are held or no more can be had.
+// Reads on after the bytes that are held, which stay as they are, until `wanted` bytes are held or there are no more.
 pub fn fill(fd: i32, window: &mut [u8], before: usize, wanted: usize) -> Filled
     requires { ⌜ (before ≤ length (now window)) × (wanted ≤ length (now window)) ⌝ }
     ensures { λ r. ⌜ Fills (now (window .entry)) before wanted r (now (window .exit)) ⌝ }
@@ -107,8 +107,8 @@ pub fn fill(fd: i32, window: &mut [u8], before: usize, wanted: usize) -> Filled
     }
 }
 
-// How many bytes to want where so many were too few: twice as many, so that a long frame that comes in small pieces is
-// read again only a few times; and no more than there is room for.
+// How many bytes to want when `left` bytes were too few: twice as many, but no more than there is room for. A long
+// frame that arrives in small pieces is then read again only a few times.
 pub fn next_wanted(left: usize, room: usize) -> usize
     requires { ⌜ left < room ⌝ }
     ensures { λ r. ⌜ (left < r) × (r ≤ room) ⌝ }

@@ -1,7 +1,8 @@
-// One read, seen from outside with every place of its buffer. Standard input, little-endian: the room (4), a fill sample (4),
-// then the frame's bytes, up to 32 KiB; bytes that are not there count as zeros of the first two. The buffer is filled, read
-// into once, and written out: the number (1), consumed (4), first sample number (8), channels (1), bits (1), block size (2),
-// then the room's samples (4 each). A room above 65,536 is answered by 11 with zeros behind it and no samples.
+// Shows one read from outside, with all of its buffer. Standard input, little-endian: the room (4), a fill sample (4),
+// then the frame's bytes, up to 32 KiB. Missing bytes of the room and the fill sample count as zeros. The buffer is
+// filled, then read into once. Written: the answer's number (1), consumed (4), first sample number (8), channels (1),
+// bits (1), block size (2), then the whole buffer (4 for each sample). A room above 65,536 is answered by 11, zeros for
+// the other numbers, and no samples.
 use frame::Answer;
 use libc::STDIN_FILENO;
 use libc::STDOUT_FILENO;
@@ -59,7 +60,7 @@ fn probe(bytes: &[u8], fill: i32, samples: &mut [i32])
     write_samples(samples);
 }
 
-// Where the frame's bytes end; they begin behind the eight of the room and the fill.
+// Where the frame's bytes end. They start after the eight bytes of the room and the fill sample.
 fn end_of(n: usize) -> usize
     requires { ⌜ n ≤ 32776 ⌝ }
     ensures { λ r. ⌜ (8 ≤ r) × (r ≤ 32776) ⌝ }

@@ -1,3 +1,2 @@
--- Bytes one by one, and that each function has one outcome.
-pub mod Spelt
+-- That each function has one outcome.
 pub mod Outcome

@@ -1,2 +1,2 @@
--- Numbers as bytes.
+-- Numbers as bytes, lowest byte first.
 pub mod Little

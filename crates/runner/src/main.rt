@@ -1,6 +1,6 @@
-// The bench runner: reads frame after frame from up to 32 KiB of standard input into a buffer of 8,192 samples, and writes
-// records, little-endian. 01: consumed (4), first sample number (8), channels (1), bits (1), block size (2). 02, for each
-// sample in the buffer's order: the sample (4). 03: the number of the refusal (1), which ends the run.
+// Reads frame after frame from up to 32 KiB of standard input into a buffer of 8,192 samples, and writes
+// little-endian records. 01: consumed (4), first sample number (8), channels (1), bits (1), block size (2). 02, for
+// each sample in the buffer's order: the sample (4). 03: the number of the refusal (1), which ends the run.
 use frame::Accepted;
 use frame::Answer;
 use libc::STDIN_FILENO;
@@ -20,7 +20,7 @@ fn write_report(f: Accepted) {
     io::write_all(STDOUT_FILENO, &bytes);
 }
 
-// The first n samples, in one piece: a write for each would be slow.
+// Writes the first n samples at once: one write per sample would be slow.
 fn write_samples(samples: &[i32], n: usize)
     requires { ⌜ (n ≤ length (now samples)) × (length (now samples) ≤ 8192) ⌝ }
 {
@@ -37,7 +37,7 @@ fn write_samples(samples: &[i32], n: usize)
     io::write_all(STDOUT_FILENO, &out[..5 * n]);
 }
 
-// Writes what is at a place, and answers the place after it: the same where it was refused.
+// Writes what was read at a place, and returns the next place: the same one after a refusal.
 fn step(bytes: &[u8], place: usize, samples: &mut [i32]) -> usize
     requires { ⌜ (place ≤ length (now bytes)) × (length (now samples) ≤ 8192) ⌝ }
     ensures { λ r. ⌜ (place ≤ r) × (r ≤ length (now (bytes .entry))) ⌝ }
@@ -57,7 +57,7 @@ fn step(bytes: &[u8], place: usize, samples: &mut [i32]) -> usize
     }
 }
 
-// Frame after frame. A step that stays where it was ends the run; any other leaves fewer bytes.
+// Reads frame after frame. A step that does not move ends the run; any other step leaves fewer bytes.
 fn run(bytes: &[u8], samples: &mut [i32])
     requires { ⌜ length (now samples) ≤ 8192 ⌝ }
 {

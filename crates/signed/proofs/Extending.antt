@@ -1,4 +1,4 @@
--- Sign extension, and the low bits, at each width. Assumes nothing.
+-- Sign extension and the low bits at each width. Assumes nothing.
 use Prim.Native.Nat.{ℕ, _*_, _%_, _^_, _+_, _≤_, _<_}
 use native.Mathlib.Nat.{mod-eq-of-lt, mod-one}
 use native.Mathlib.Omega.{arith}
@@ -26,7 +26,7 @@ module _ (w v : ℕ) where
   unfolding signExtend wrapped low
   extend-all h l = rw (lt-leb w 63 h) (ap (signed 64) (mod-eq-of-lt l))
 
-  -- a number of w bits is extended to what it spells
+  -- a number that fits w bits extends to its signed value
   pub extend-signed : w ≤ 64 → v < 2 ^ w → signExtend w v ≡ signed w v
   extend-signed h l = go (leb w 63) refl
     where
@@ -36,16 +36,16 @@ module _ (w v : ℕ) where
           let f : w ≡ 64 = omega (arith, leb-false w 63 e) in
           extend-all (omega arith) (rw f at l) ∙ ap (λ n. signed n v) (sym f)
 
--- no bits spell nothing
+-- a width of 0 gives 0
 pub extend-none : (v : ℕ) → signExtend 0 v ≡ pos 0
 unfolding signed
 extend-none v = extend-low 0 v (omega arith) ∙ ap (signed 0) (mod-one v)
 
--- what both shifts leave
+-- a shift up and back down extends the sign
 pub extend-shifts : (w k v : ℕ) → w ≤ 63 → w + k ≡ 64 → shiftDown k (signed 64 ((v * 2 ^ k) % 2 ^ 64)) ≡ signExtend w v
 extend-shifts w k v h e = up-and-down w k 64 v e ∙ sym (extend-low w v h)
 
--- ---- the low bits: of a width up to 64 they are the width's
+-- ---- the low bits: up to a width of 64 the limit of 64 plays no part
 
 pub lowBits-is : (w : ℕ) (z : ℤ) → w ≤ 64 → lowBits w z ≡ low w z
 unfolding lowBits
@@ -55,7 +55,7 @@ lowBits-is w z h = go (leb w 63) refl
     go true e = refl
     go false e = ap (λ n. low n z) (let f : 64 ≡ w = omega (arith, leb-false w 63 e) in f)
 
--- as the function has them, of all 64 bits of a number. A signed value is handed on by its bits.
+-- as the function computes them, from all 64 bits. The machine passes a signed value as its bits.
 
 module _ (w : ℕ) {z : ℤ} (f : SFits w64 z) {r : ℕ} (e : r ≡ low 64 (toZ w64 (ofZ w64 z))) where
   all-of : r ≡ low 64 z

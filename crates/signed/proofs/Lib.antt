@@ -1,4 +1,4 @@
--- Laws for callers: sign extension and the low bits at each width, what a test of the sign tells.
+-- Laws for callers: sign extension and the low bits at each width, and numbers by their sign.
 pub mod Extending
 pub mod Signs
 pub mod Outcome

@@ -1,5 +1,4 @@
--- What a test of the sign tells of a number: its magnitude by a cast, its folded form, its bits. A signed value is handed
--- on by its bits. Assumes nothing.
+-- A number by its sign: its magnitude, its folded form and its bits. Assumes nothing.
 use Prim.Native.Nat.{ℕ, suc, _+_, _-_, _*_, _%_, _^_, _<_}
 use native.Mathlib.Nat.{mod-eq-of-lt}
 use native.Mathlib.Omega.{arith}
@@ -27,6 +26,7 @@ negsuc-of (negsuc n) e = refl
 minus-negsuc : (n : ℕ) → negsuc 0 -ℤ negsuc n ≡ pos n
 minus-negsuc n = rw (le-ltb (suc n) 1 (omega arith)) (ap pos (omega arith))
 
+-- a number as the machine passes it: by its bits
 abbrev pub bits64 : ℤ → ℤ
 bits64 z = toZ w64 (ofZ w64 z)
 

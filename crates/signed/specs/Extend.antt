@@ -1,11 +1,11 @@
--- Sign extension, and what it undoes, at every width: a width over 64 is 64.
+-- The low bits of a number and their sign extension, at every width: a width over 64 counts as 64.
 use Prim.Native.Nat.{ℕ}
 use lib.Dec.{leb}
 use lib.IntN.{ℤ, pos}
 use Rattle.reading.specs.Reading.{if_then_else_}
 use Rattle.rfc9639.specs.Integers.{low, wrapped}
 
--- the low w bits of v, signed
+-- the low w bits of v, as a signed number
 unfoldable pub signExtend : ℕ → ℕ → ℤ
 signExtend w v = if leb w 63 then wrapped w (pos v) else wrapped 64 (pos v)
 

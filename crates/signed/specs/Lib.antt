@@ -1,2 +1,2 @@
--- What the functions of this crate answer where rfc9639 has no word for it.
+-- What this crate's functions answer where rfc9639 has no definition for it.
 pub mod Extend

@@ -1,5 +1,4 @@
--- Any two outcomes that meet an exported function's contract are equal: the number, and what is left behind each
--- reference. Assumes nothing.
+-- Any two outcomes that meet an exported function's contract are equal. Assumes nothing.
 use Prim.Native.Nat.{ℕ, _+_}
 use native.Mathlib.Omega.{arith}
 use mathlib.Core.Path.{_≡_, refl, ap, ap₂}

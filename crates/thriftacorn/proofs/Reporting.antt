@@ -1,4 +1,4 @@
--- An answer that was told, as the outcome of the definition. Assumes nothing.
+-- The reports of answers: they are those of the definition's outcome. Assumes nothing.
 use Prim.Native.Nat.{ℕ, _+_}
 use mathlib.Core.Path.{_≡_, ap, ap₂, sym, _∙_}
 use mathlib.Core.List.{List}
@@ -25,6 +25,6 @@ stepped {place = place} h e =
 pub written : {o : Written} {r : w.Answer} (left : List ℕ) → outcome r left ≡ o → (q : w.Answer) → r ≡ q → outcome q left ≡ o
 written left h q e = ap (λ (x : w.Answer). outcome x left) (sym e) ∙ h
 
--- what is reported of the case that an answer was told to be
+-- the report of an answer that is known to be a certain case
 pub by-case : {A B : Type 0} (report : A → B) {o r q : A} → r ≡ o → r ≡ q → report q ≡ report o
 by-case report h e = ap report (sym e ∙ h)

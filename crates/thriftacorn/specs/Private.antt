@@ -1,4 +1,4 @@
--- What an answer reports: only the contract of a private function names it, so nobody has to believe it.
+-- What an answer reports. Only the contract of a private function names it, so a caller need not trust it.
 use Prim.Native.Nat.{ℕ}
 use mathlib.Core.Path.{_≡_}
 use Rattle.rfc9639.specs.Read.{Report}
@@ -7,5 +7,5 @@ use Rattle.frame.specs.Reads.{reportOf}
 
 -- the number and the values that an answer reports
 abbrev pub Told : Answer → ℕ → ℕ → ℕ → ℕ → ℕ → ℕ → Type 0
-Told answer number consumed first channels bits size =
-    _≡_ {A = Report} (record { number = number; consumed = consumed; first = first; channels = channels; bits = bits; size = size }) (reportOf answer)
+Told answer refusal consumed first channels bits size =
+    _≡_ {A = Report} (record { number = refusal; consumed = consumed; first = first; channels = channels; bits = bits; size = size }) (reportOf answer)

@@ -1,9 +1,9 @@
-// Reading, for other languages: the frame that starts the bytes, or the one at a place, which moves past it.
+// Reading, for other languages: the frame at the start of the bytes, or the one at a place, which then moves past it.
 use frame::Answer;
 ghost use Rattle.thriftacorn.specs.Exports.{ReadFrameV1, ReadNextV1};
 ghost use Rattle.thriftacorn.specs.Private.{Told};
 
-// What an answer reports, into the references.
+// Stores what an answer reports through the references, and returns its number.
 fn tell(
     answer: Answer,
     consumed: &mut usize,
@@ -34,7 +34,7 @@ fn tell(
     }
 }
 
-// Reads the frame that starts the bytes.
+// Reads the frame at the start of the bytes.
 #[no_mangle]
 pub extern "C" fn thriftacorn_read_frame_v1(
     bytes: &[u8],
@@ -52,7 +52,7 @@ pub extern "C" fn thriftacorn_read_frame_v1(
     tell(answer, consumed, first, channels, bits, size)
 }
 
-// Reads the frame at a place of the bytes, and moves the place past it. A refusal leaves the place.
+// Reads the frame at a place of the bytes, and moves the place past it. A refusal leaves the place as it was.
 #[no_mangle]
 pub extern "C" fn thriftacorn_read_next_v1(
     bytes: &[u8],

@@ -1,4 +1,4 @@
-// Access to the samples of a block, for other languages. The block is its channels and the samples of each.
+// Access to the samples of a block, for other languages. A block is given by its channels and its samples per channel.
 use block::Block;
 use block::ChannelAt;
 use block::PairAt;
@@ -6,7 +6,7 @@ use block::SampleAt;
 ghost use lib.ListN.{length};
 ghost use Rattle.thriftacorn.specs.Exports.{ChannelV1, SampleV1, PairV1};
 
-// Where a channel's samples start, and where they end.
+// Where a channel's samples start and where they end.
 #[no_mangle]
 pub extern "C" fn thriftacorn_channel_v1(
     samples: &[i32],
@@ -34,7 +34,7 @@ pub extern "C" fn thriftacorn_channel_v1(
     }
 }
 
-// The sample of a channel at an index.
+// The sample at an index of a channel.
 #[no_mangle]
 pub extern "C" fn thriftacorn_sample_v1(
     samples: &[i32],
@@ -60,7 +60,7 @@ pub extern "C" fn thriftacorn_sample_v1(
     }
 }
 
-// Left and right at an index, of a block of two channels.
+// The left and the right sample at an index, in a block of two channels.
 #[no_mangle]
 pub extern "C" fn thriftacorn_pair_v1(
     samples: &[i32],

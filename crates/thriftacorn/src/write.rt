@@ -28,8 +28,8 @@ pub extern "C" fn thriftacorn_write_frame_v1(
     }
 }
 
-// The length that no frame with these settings exceeds, in bytes; 0 where no frame is written with them. An output of
-// that length is never refused 13.
+// The length in bytes that no frame with these settings exceeds, or 0 if the settings are refused. An output of that
+// length never gets refusal 13.
 #[no_mangle]
 pub extern "C" fn thriftacorn_longest_v1(
     channels: u32,

@@ -1,4 +1,4 @@
--- The steps of a reading frame by frame, and the list that they give.
+-- Reading frame by frame: one step, and the list that the steps give.
 pub mod OneStep
 pub mod Walks
 pub mod Outcome

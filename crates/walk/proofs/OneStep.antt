@@ -1,4 +1,4 @@
--- One step: what the bytes from a place on come to, and where the next place lies. Assumes nothing.
+-- One step: the answer for the bytes from a place on, and the next place. Assumes nothing.
 use Prim.Native.Nat.{ℕ, _+_, _-_, _*_, _≤_, _<_, min}
 use native.Mathlib.Nat.{min-eq-left, min-eq-right}
 use native.Mathlib.Omega.{arith}
@@ -18,7 +18,7 @@ use Rattle.frame.proofs.Taking.{buffer-length, bytes-there, samples-there}
 use Rattle.walk.specs.declared.Step.{Step}
 use Rattle.walk.specs.Steps.{Steps}
 
--- a place past the end has as much after it as the end
+-- nothing follows a place past the end
 pub drop-lesser : (place : ℕ) (s : List ℕ) → drop (min place (length s)) s ≡ drop place s
 drop-lesser place s = go (decLe place (length s))
   where
@@ -27,13 +27,13 @@ drop-lesser place s = go (decLe place (length s))
     go (no h) =
         ap (λ n. drop n s) (min-eq-right {n = length s} {m = place} (omega arith)) ∙ drop-of-length-le s {i = length s} (omega arith) ∙ sym (drop-of-length-le s {i = place} (omega arith))
 
--- a part from the lesser of the two to the end
+-- the part that is lent to `read_frame`: from the place, or from the end if the place lies past it
 pub part-rest : (s : List ℕ) (place start : ℕ) → start ≡ min place (length s) → take (length s - start) (drop start s) ≡ drop place s
 part-rest s place start e = take-all (length s - start) (drop start s) (omega (arith, length-drop start s)) ∙ ap (λ n. drop n s) e ∙ drop-lesser place s
 
 module _ (s : List ℕ) (place : ℕ) (b : List ℤ) {left : List ℤ} {r : Answer} (h : Reads (read (drop place s) b) r left) where
   module _ {f : Accepted} (e : r ≡ Answer.Frame f) where
-    -- the place after a frame is one of the input; where there was none, it would count no bytes
+    -- the next place lies in the input; past its end there would be no bytes to count
     pub next-there : place + f .consumed ≤ length s + (place - length s)
     next-there = let t = bytes-there (drop place s) b h e in omega (arith, length-drop place s)
 
@@ -60,11 +60,11 @@ module _ (s : List ℕ) (place : ℕ) (b : List ℤ) {r : Step} {left : List ℤ
     reported : reportOf (Answer.Frame f) ≡ read (drop place s) b .report
     reported = ap reportOf (sym e) ∙ h .answer .report
 
-    -- a frame has a byte at least
+    -- a frame has at least one byte
     pub goes-on : place < r .place
     goes-on = omega (arith, h .next, counted-some (drop place s) b (sym (ap (λ (q : Report). q .number) reported)))
 
-    -- and its bytes are the input's
+    -- and its bytes lie in the input
     pub stays-inside : r .place ≤ length s
     stays-inside =
         let t = bytes-there (drop place s) b (h .answer) e in
@@ -73,7 +73,3 @@ module _ (s : List ℕ) (place : ℕ) (b : List ℤ) {r : Step} {left : List ℤ
 
     pub samples-lent : f .channels * f .size ≤ length b
     samples-lent = samples-there (drop place s) b (h .answer) e
-
-  pub refused-stays : {x : Refusal} → r .answer ≡ Answer.Refused x → r .place ≡ place
-  unfolding refusal
-  refused-stays e = let c = ap (λ (q : Report). q .consumed) (sym (h .answer .report) ∙ ap reportOf e) in omega (arith, h .next)

@@ -9,7 +9,7 @@ use Rattle.frame.proofs.Outcome.{report-tells}
 use Rattle.walk.specs.declared.Step.{Step}
 use Rattle.walk.proofs.read_next
 
--- a step is its two parts
+-- a step is determined by its two parts
 parts-tell : (r r′ : Step) → r .answer ≡ r′ .answer → r .place ≡ r′ .place → r ≡ r′
 parts-tell r r′ a n = ap₂ (λ (x : Answer) (y : ℕ). record { answer = x; place = y }) a n
 

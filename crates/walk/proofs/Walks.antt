@@ -1,6 +1,4 @@
--- THE STEPS GIVE THE LIST: every run of steps, from the first byte to the refusal that ends it, shows the definition's
--- answers to the whole input, in their order, with none skipped and none read twice; whatever each lent buffer held. And a
--- step in a window that is decided there is the step in the whole card. Assumes nothing.
+-- THE STEPS GIVE THE LIST: a run of steps shows the definition's answers to the whole input. Assumes nothing.
 use Prim.Native.Nat.{ℕ, _+_, _≤_}
 use native.Mathlib.Omega.{arith}
 use mathlib.Core.Path.{_≡_, refl, ap, sym, _∙_, subst}
@@ -19,25 +17,25 @@ use Rattle.frame.specs.Reads.{reportOf, Reads}
 use Rattle.walk.specs.declared.Step.{Step}
 use Rattle.walk.specs.Steps.{Steps}
 
--- a step that was taken: what was lent to it, what it gave, and what it left
+-- a step that was taken: the samples lent to it, its answer and next place, and the samples afterwards
 pub record Taken : Type 0 where
   pub lent : List ℤ
   pub step : Step
   pub left : List ℤ
 
--- Steps from a place on, each with as much room, up to and with the first that is refused.
+-- Steps from a place on, all with the same room, up to and including the first refusal.
 pub data Walk (s : List ℕ) (room : ℕ) : ℕ → List Taken → Type 0 where
   stops : {place : ℕ} {t : Taken} (e : Refusal) → length (t .lent) ≡ room → Steps s place (t .lent) (t .step) (t .left)
       → t .step .answer ≡ Answer.Refused e → Walk s room place (t ∷ [])
   goes : {place : ℕ} {t : Taken} {ts : List Taken} (f : Accepted) → length (t .lent) ≡ room → Steps s place (t .lent) (t .step) (t .left)
       → t .step .answer ≡ Answer.Frame f → Walk s room (t .step .place) ts → Walk s room place (t ∷ ts)
 
--- a step shows an answer of the definition: its report, and its front over what was lent
+-- a step shows an answer of the definition: its report, and its samples at the front of what was lent
 pub record Shows (t : Taken) (q : Result) : Type 0 where
   pub report : reportOf (t .step .answer) ≡ q .report
   pub samples : t .left ≡ q .front ++ drop (length (q .front)) (t .lent)
 
--- one for one
+-- each step shows the answer at the same position of the list
 pub data Match : List Taken → List Result → Type 0 where
   matched : Match [] []
   matches : {t : Taken} {q : Result} {ts : List Taken} {qs : List Result} → Shows t q → Match ts qs → Match (t ∷ ts) (q ∷ qs)
@@ -88,12 +86,13 @@ module _ (s : List ℕ) (room : ℕ) where
       ∙ ap (λ (x : List ℕ). one (drop place s) ∷ answers one x) (next-rest place {t = t} l h) in
       subst (Match (t ∷ ts)) (sym list) (matches w (walk-shows rest))
 
--- from the first byte
+-- Every run of steps from the first byte to the refusal that ends it shows the definition's answers to the whole input:
+-- in order, with none skipped and none read twice, whatever each lent buffer held.
 pub steps-give-answers : (s : List ℕ) (room : ℕ) {ts : List Taken} → Walk s room 0 ts → Match ts (answers (result (record { room = room })) s)
 steps-give-answers s room w = walk-shows s room w
 
--- A window of a card: what is gone, what the window holds, and what is still to come. What is decided in the window is
--- what the whole card says at that place.
+-- A window of a card: the bytes before it, those it holds, and those still to come. An answer that is decided in the
+-- window is the whole card's answer at that place.
 pub in-window : {one : List ℕ → Result} → Lawful one → (gone window more : List ℕ) (at : ℕ) → at ≤ length window
     → (verdict (one (drop at window)) ≡ undecided → ⊥) → one (drop (length gone + at) (gone ++ (window ++ more))) ≡ one (drop at window)
 in-window {one} law gone window more at h known =

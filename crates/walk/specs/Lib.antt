@@ -1,2 +1,2 @@
--- One step of a reading frame by frame.
+-- One step of reading frame by frame.
 pub mod Steps

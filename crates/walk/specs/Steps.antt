@@ -1,5 +1,5 @@
--- What a step of a reading frame by frame comes to: the definition's answer and buffer for the bytes from a place on, and
--- the place after the bytes that the answer counts, of which a refusal counts none.
+-- One step of reading frame by frame: the definition's answer and buffer for the bytes from a place on, and the place
+-- after the bytes that the answer consumed. A refusal consumes none.
 use Prim.Native.Nat.{ℕ, _+_}
 use mathlib.Core.Path.{_≡_}
 use mathlib.Core.List.{List}

@@ -1,17 +1,17 @@
-// A whole input, frame by frame: one step of it. Everything that goes from frame to frame (the programs, the exported
-// function, the Rust binding's loop) goes by this step, and the steps from the first byte on give the definition's list of
-// answers, with none skipped and none read twice (proofs/Walks.antt).
+// One step of reading a whole input frame by frame. Whatever reads frame after frame (the programs, the exported
+// function, the Rust binding's loop) takes this step. Taken from the first byte on, the steps give the definition's
+// list of answers, with none skipped and none read twice (proofs/Walks.antt).
 use frame::Answer;
 ghost use Rattle.walk.specs.Steps.{Steps};
 
-// What was read at a place, and the place after it: past an accepted frame, and where it was for a refusal.
+// What was read at a place, and the next place: past an accepted frame, or the same place after a refusal.
 pub struct Step {
     pub answer: Answer,
     pub place: usize,
 }
 
-// Reads the frame at a place of the input, as `read_frame` reads the bytes from there on. A place past the end has nothing
-// after it.
+// Reads the frame at a place of the input, as `read_frame` reads the bytes from there on. Past the end there is nothing
+// left to read.
 pub fn read_next(s: &[u8], place: usize, samples: &mut [i32]) -> Step
     ensures { λ r. ⌜ Steps (now (s .entry)) place (now (samples .entry)) r (now (samples .exit)) ⌝ }
 {

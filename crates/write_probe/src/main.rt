@@ -1,8 +1,8 @@
-// One write, seen from outside with every byte of its output. Standard input, little-endian: channel code (1), bits (1),
-// blocking (1), number (8), block size (4), the output's room (4), a fill byte (1), then the samples (4 each, at most
-// 16,384); bytes that are not there count as zeros of the first seven, and what is no whole sample is left out. The output is
-// filled, written into once, and written out: the number (1), the length (4), then the room's bytes. A room above 32,768 is
-// answered by 11 with a length of 0 and no bytes.
+// Shows one write from outside, with all of its output. Standard input, little-endian: channel code (1), bits (1),
+// blocking (1), the frame's or sample's number (8), block size (4), the output's room (4), a fill byte (1), then the
+// samples (4 each, at most 16,384). Missing bytes before the samples count as zeros, and an incomplete last sample is
+// left out. The output is filled, then written into once. Written: the answer's number (1), the length (4), then the
+// whole output. A room above 32,768 is answered by 11, a length of 0, and no bytes.
 use libc::STDIN_FILENO;
 use libc::STDOUT_FILENO;
 use writer::Answer;
@@ -51,7 +51,7 @@ fn decode(bytes: &[u8], samples: &mut [i32])
     }
 }
 
-// The number, of eight bytes.
+// The frame's or sample's number, in eight bytes.
 fn number_of(input: &[u8]) -> u64
     requires { ⌜ length (now input) ≡ 65556 ⌝ }
 {
@@ -60,7 +60,7 @@ fn number_of(input: &[u8]) -> u64
     high % 0x1_0000_0000 * 0x1_0000_0000 + low % 0x1_0000_0000
 }
 
-// How many whole samples n bytes have behind the head.
+// How many complete samples follow the settings in n bytes.
 fn count_of(n: usize) -> usize
     requires { ⌜ n ≤ 65556 ⌝ }
     ensures { λ r. ⌜ r ≤ 16384 ⌝ }

@@ -1,7 +1,7 @@
 //! Access to a block's samples through the binding: a channel, one sample, a pair, and what is refused.
 use thriftacorn::{read_frame, write_frame, Frame, WriteSettings};
 
-/// A frame with these channels of so many samples, 1 and up, with its samples.
+/// A frame with this many channels and samples per channel, and its samples, which count up from 1.
 fn counted(channels: u32, block_size: usize) -> (Frame, Vec<i32>) {
     let settings = WriteSettings::new(channels - 1, 16, block_size);
     let samples: Vec<i32> = (1..).take(channels as usize * block_size).collect();
@@ -17,7 +17,7 @@ fn counted(channels: u32, block_size: usize) -> (Frame, Vec<i32>) {
 fn channels_and_samples_are_parts_of_the_samples() {
     for (channels, size) in [(1, 1), (1, 4), (2, 3), (3, 2), (8, 5)] {
         let (frame, mut samples) = counted(channels, size);
-        // What stands after the block's samples is no channel's.
+        // Samples after those of the block belong to no channel.
         samples.extend([-1; 3]);
         let channels = channels as usize;
         for channel in 0..channels + 2 {

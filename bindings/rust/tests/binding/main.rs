@@ -1,4 +1,4 @@
-//! The binding's tests, and what they share: RFC 9639's first frame, and a report as values that can be compared.
+//! The binding's tests, and what they share: RFC 9639's first frame, and reports as values that can be compared.
 mod block;
 mod needs;
 mod read;

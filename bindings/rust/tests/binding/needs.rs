@@ -1,9 +1,9 @@
-//! What each refusal asks of the caller, and the input on which a caller who does not ask finds a frame inside the
+//! What each refusal asks of the caller, and an input on which a caller who ignores that finds a frame inside the
 //! sound.
 use crate::{told, Told, WHOLE, WHOLE_TOLD};
 use thriftacorn::{read_frame, write_frame, Frames, Need, Refusal, WriteSettings};
 
-/// Where the sound holds RFC 9639's first frame.
+/// The place of RFC 9639's first frame inside the sound.
 const INSIDE: usize = 107;
 const HOLDING_TOLD: Told = (201, Some(0), 1, 8, 191);
 
@@ -64,7 +64,7 @@ fn the_writer_writes_that_frame() {
     assert_eq!(out[..201], frame[..]);
 }
 
-/// Reads an input that comes in pieces of this length, by `needs` alone.
+/// Reads an input that arrives in pieces of this length, going by `needs` alone.
 fn in_pieces(input: &[u8], length: usize) -> (Vec<Told>, Refusal) {
     let mut pieces = input.chunks(length);
     let (mut window, mut list, mut samples) = (Vec::new(), Vec::new(), [0; 256]);

@@ -4,14 +4,14 @@ use thriftacorn::{read_frame, write_frame, Blocking, Refusal, WriteSettings};
 
 const ONE: WriteSettings = WriteSettings::new(0, 16, 1);
 
-/// `ONE` with something changed.
+/// `ONE` with one setting changed.
 fn but(change: impl FnOnce(&mut WriteSettings)) -> WriteSettings {
     let mut settings = ONE;
     change(&mut settings);
     settings
 }
 
-/// Settings with which no frame is written.
+/// Settings that are refused.
 fn wrong() -> Vec<WriteSettings> {
     vec![
         but(|set| set.channel_code = 11),
@@ -102,7 +102,7 @@ fn signal(count: usize, bits: u32, kind: u32, seed: &mut u64) -> Vec<i32> {
     (0..count).map(|i| draw(i, seed)).collect()
 }
 
-/// Writes these samples, reads them back, and holds the report to the settings.
+/// Writes these samples, reads them back, and compares the report with the settings.
 fn reads_back(samples: &[i32], settings: &WriteSettings) {
     let mut out = vec![0; settings.longest()];
     let length = write_frame(samples, settings, &mut out).unwrap();

@@ -1,4 +1,4 @@
--- Each number becomes x, in its turn (Filled). Assumes nothing.
+-- `fill` meets its contract: the samples before `i` are x (Filled). Assumes nothing.
 use Prim.Native.Nat.{_-_}
 use native.Mathlib.Omega.{arith}
 use mathlib.Core.Path.{refl, ap, _∙_}

@@ -1,4 +1,4 @@
--- `sample` meets its contract: an index of the channel lies in the range that `channel` told. Assumes nothing.
+-- `sample` meets its contract: the index lies in the range that `channel` answers. Assumes nothing.
 use native.Mathlib.Omega.{arith}
 use borrow.Author.Needs.{needs}
 use lib.ListN.{length}

@@ -1,5 +1,4 @@
--- `crc::crc16` meets its contract. The loop's invariant: the bytes before `i` are summed up. That the table holds the sums
--- of all bytes is computed, entry by entry, where it is lent. Assumes nothing.
+-- `crc::crc16` meets its contract: the table's 256 entries are checked by computation. Assumes nothing.
 use Prim.Native.Nat.{_-_}
 use native.Mathlib.Omega.{arith}
 use borrow.Author.Needs.{needs}

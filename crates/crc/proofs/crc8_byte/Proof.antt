@@ -1,4 +1,4 @@
--- `crc::crc8_byte` meets its contract: a byte more is a look-up. Assumes nothing.
+-- `crc::crc8_byte` meets its contract: one more byte is one look-up. Assumes nothing.
 use native.Mathlib.Omega.{arith}
 use lib.Bits.{xor-lt}
 use lib.Dec.{lit<}

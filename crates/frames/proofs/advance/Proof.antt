@@ -1,4 +1,4 @@
--- The window's frames, and then a turn that leaves as much to list as there was. Assumes nothing.
+-- `frames::advance` meets its contract, by the window's list and the refusal's need. Assumes nothing.
 use native.Mathlib.Omega.{arith}
 use mathlib.Core.Path.{refl, sym, _∙_}
 use lib.ListN.{length}

@@ -1,4 +1,4 @@
--- The window goes on where it was left, by a refill or as it is. Assumes nothing.
+-- `frames::go_on` meets its contract: the window is refilled, or was full already. Assumes nothing.
 use native.Mathlib.Omega.{arith}
 use borrow.Author.Needs.{needs}
 use Rattle.frames.proofs.Turning.{full-refills, go-refills}

@@ -1,4 +1,4 @@
--- Each step that goes on takes a byte at least, and leaves as much to list as there was. Assumes nothing.
+-- `frames::list_frames` meets its contract: each step takes a byte and keeps the list the same. Assumes nothing.
 use Prim.Native.Nat.{ℕ, _+_, _-_, _*_, _≤_, _<_}
 use native.Mathlib.Omega.{arith}
 use mathlib.Core.Path.{_≡_, ap, ap₂, sym, _∙_}

@@ -1,4 +1,4 @@
--- Each turn goes further, and leaves what is listed of the card as it was. Assumes nothing.
+-- `frames::read_card` meets its contract: each turn reads further and keeps the list the same. Assumes nothing.
 use native.Mathlib.Omega.{arith}
 use mathlib.Core.Path.{_≡_, _∙_}
 use borrow.Author.Needs.{needs}

@@ -1,4 +1,4 @@
--- What a fill leaves is in the window. Assumes nothing.
+-- `frames::read_opening` stays within the window: so do the bytes that a fill holds. Assumes nothing.
 use native.Mathlib.Omega.{arith}
 use mathlib.Core.Path.{sym}
 use lib.Seq.{length-take-le}

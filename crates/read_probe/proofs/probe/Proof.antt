@@ -1,4 +1,4 @@
--- `read_probe::probe` keeps within the samples that it is lent. Assumes nothing.
+-- `read_probe::probe` stays within the samples that it is lent. Assumes nothing.
 use Prim.Native.Nat.{_-_, _≤_}
 use mathlib.Core.Path.{_≡_}
 use borrow.Author.Needs.{needs}

@@ -1,4 +1,4 @@
--- `read_probe::run` keeps within the input and the samples: a room above theirs is refused. Assumes nothing.
+-- `read_probe::run` stays within the input and the samples: a larger room is refused. Assumes nothing.
 use native.Mathlib.Omega.{arith}
 use mathlib.Core.Path.{sym}
 use borrow.Author.Needs.{needs}

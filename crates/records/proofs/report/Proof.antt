@@ -1,7 +1,7 @@
--- `report` meets its contract: each byte by itself. Assumes nothing.
+-- `report` meets its contract, byte by byte. Assumes nothing.
 use borrow.Author.Needs.{needs}
-use mathlib.Core.Path.{refl}
-use Rattle.records.proofs.Spelt.{also}
+use mathlib.Core.Path.{refl, ap₂}
+use mathlib.Core.List.{_∷_}
 use Rattle.records.proofs.report.Statement.{statement}
 use Rattle.records.proofs.report.Tie as tie
 
@@ -70,23 +70,23 @@ returns c =
     let c3 = c4 .before in
     let c2 = c3 .before in
     let c1 = c2 .before in
-    also refl
-    (also (c1 .low-byte .ensures)
-    (also (c2 .low-byte2 .ensures)
-    (also (c3 .low-byte3 .ensures)
-    (also (c4 .low-byte4 .ensures)
-    (also (c5 .low-byte5 .ensures)
-    (also (c6 .low-byte6 .ensures)
-    (also (c7 .low-byte7 .ensures)
-    (also (c8 .low-byte8 .ensures)
-    (also (c9 .low-byte9 .ensures)
-    (also (c10 .low-byte10 .ensures)
-    (also (c11 .low-byte11 .ensures)
-    (also (c12 .low-byte12 .ensures)
-    (also (c13 .low-byte13 .ensures)
-    (also (c14 .low-byte14 .ensures)
-    (also (c15 .low-byte15 .ensures)
-    (also (c .low-byte16 .ensures)
+    ap₂ _∷_ refl
+    (ap₂ _∷_ (c1 .low-byte .ensures)
+    (ap₂ _∷_ (c2 .low-byte2 .ensures)
+    (ap₂ _∷_ (c3 .low-byte3 .ensures)
+    (ap₂ _∷_ (c4 .low-byte4 .ensures)
+    (ap₂ _∷_ (c5 .low-byte5 .ensures)
+    (ap₂ _∷_ (c6 .low-byte6 .ensures)
+    (ap₂ _∷_ (c7 .low-byte7 .ensures)
+    (ap₂ _∷_ (c8 .low-byte8 .ensures)
+    (ap₂ _∷_ (c9 .low-byte9 .ensures)
+    (ap₂ _∷_ (c10 .low-byte10 .ensures)
+    (ap₂ _∷_ (c11 .low-byte11 .ensures)
+    (ap₂ _∷_ (c12 .low-byte12 .ensures)
+    (ap₂ _∷_ (c13 .low-byte13 .ensures)
+    (ap₂ _∷_ (c14 .low-byte14 .ensures)
+    (ap₂ _∷_ (c15 .low-byte15 .ensures)
+    (ap₂ _∷_ (c .low-byte16 .ensures)
     refl))))))))))))))))
 
 pub report-spec : {M : Type 1} → statement M

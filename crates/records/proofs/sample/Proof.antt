@@ -1,10 +1,10 @@
--- `sample` meets its contract: each byte of the low 32 bits by itself. Assumes nothing.
+-- `sample` meets its contract, byte by byte of the low 32 bits. Assumes nothing.
 use borrow.Author.Needs.{needs}
-use mathlib.Core.Path.{refl, ap, _∙_}
+use mathlib.Core.Path.{refl, ap, ap₂, _∙_}
+use mathlib.Core.List.{_∷_}
 use Rattle.rfc9639.proofs.Machine.{widened, widen-fits}
 use Rattle.signed.specs.Extend.{lowBits}
 use Rattle.records.specs.Little.{little}
-use Rattle.records.proofs.Spelt.{also}
 use Rattle.records.proofs.sample.Statement.{statement}
 use Rattle.records.proofs.sample.Tie as tie
 
@@ -32,7 +32,7 @@ returns c =
     let c3 = c .before in
     let c2 = c3 .before in
     let c1 = c2 .before in
-    also (c1 .low-byte .ensures) (also (c2 .low-byte2 .ensures) (also (c3 .low-byte3 .ensures) (also (c .low-byte4 .ensures) refl)))
+    ap₂ _∷_ (c1 .low-byte .ensures) (ap₂ _∷_ (c2 .low-byte2 .ensures) (ap₂ _∷_ (c3 .low-byte3 .ensures) (ap₂ _∷_ (c .low-byte4 .ensures) refl)))
     ∙ ap (little 4) (c1 .before .low-bits .ensures ∙ ap (lowBits 32) (widened (c1 .before .before .fits .x)))
 
 pub sample-spec : {M : Type 1} → statement M

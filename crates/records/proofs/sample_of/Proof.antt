@@ -1,4 +1,4 @@
--- `sample_of` meets its contract: 32 bits that are extended and cut again are the 32 bits. Assumes nothing.
+-- `sample_of` meets its contract: 32 bits, extended and cut again, are the same 32 bits. Assumes nothing.
 use Prim.Native.Nat.{ℕ}
 use native.Mathlib.Omega.{arith}
 use mathlib.Core.Path.{_≡_, ap, _∙_}

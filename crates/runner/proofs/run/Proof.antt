@@ -1,4 +1,4 @@
--- `runner::run` ends, since each step that goes on goes further, and stays within the bytes. Assumes nothing.
+-- `runner::run` ends, since each step but the last moves on and stays within the bytes. Assumes nothing.
 use Prim.Native.Nat.{_-_, _≤_}
 use mathlib.Core.Path.{_≡_}
 use borrow.Author.Needs.{needs}

@@ -1,5 +1,4 @@
--- `runner::step` keeps within the buffers: the place after a frame is there, and its samples are in the buffer. Assumes
--- nothing.
+-- `runner::step` stays within the bytes and the samples. Assumes nothing.
 use Prim.Native.Nat.{_*_, _≤_, _<_}
 use native.Mathlib.Omega.{arith}
 use mathlib.Core.Path.{_≡_}
@@ -9,7 +8,7 @@ use Rattle.walk.proofs.OneStep.{buffer-kept, goes-on, stays-inside, samples-len
 use Rattle.runner.proofs.step.Statement.{statement}
 use Rattle.runner.proofs.step.Tie as tie
 
--- what a frame that was read says of the buffers
+-- what an accepted frame says about the buffers
 module _ (c : tie.After-answer) where
   abbrev start : tie.Start
   start = c .before .before .before .before .before .before

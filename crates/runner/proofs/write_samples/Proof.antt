@@ -1,4 +1,4 @@
--- `runner::write_samples` keeps within its array, which has five bytes for each place. Assumes nothing.
+-- `runner::write_samples` stays within its array, which has five bytes for each sample. Assumes nothing.
 use Prim.Native.Nat.{_-_, _≤_}
 use mathlib.Core.Path.{_≡_, sym}
 use borrow.Author.Needs.{needs}

@@ -1,4 +1,4 @@
--- `reinterpret` meets its contract: each half of the bits by itself. Assumes nothing.
+-- `reinterpret` meets its contract, by the top bit. Assumes nothing.
 use Prim.Native.Nat.{suc, _-_, _*_, _^_, _<_}
 use native.Mathlib.Omega.{arith}
 use mathlib.Core.Path.{_≡_, ap, _∙_}

@@ -1,4 +1,4 @@
--- `unfold` meets its contract: half of a u32 fits an i32, and so does minus one minus it. Assumes nothing.
+-- `unfold` meets its contract: half of a u32 fits an i32, and so does -1 minus that half. Assumes nothing.
 use Prim.Native.Nat.{_/_, _^_, _<_}
 use native.Mathlib.Omega.{arith}
 use mathlib.Core.Path.{_∙_}

@@ -1,4 +1,4 @@
--- `walk::read_next` reads what is there from a place on, and goes to the place after it. Assumes nothing.
+-- `walk::read_next` meets its contract: it reads the bytes from the place on, and moves past them. Assumes nothing.
 use borrow.Author.Needs.{needs}
 use Prim.Native.Nat.{ℕ}
 use native.Mathlib.Omega.{arith}
@@ -36,7 +36,7 @@ read-frame-requires c κs = search needs
 enum-known-answer : tie.Need-enum-known-answer
 enum-known-answer c = search needs
 
--- what `read_frame` promises of the bytes from the place on
+-- what `read_frame` promises for the bytes from the place on
 read-is : (c : tie.After-read-frame) → Reads (read (drop (start c .args .place) (start c .args .s .now)) (start c .args .samples .now)) (c .read-frame .result) (c .read-frame .last .1 .0)
 unfolding start
 read-is c =

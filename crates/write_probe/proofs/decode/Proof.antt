@@ -1,4 +1,4 @@
--- `write_probe::decode` keeps within the bytes, which are four for each sample. Assumes nothing.
+-- `write_probe::decode` stays within the bytes, of which there are four for each sample. Assumes nothing.
 use Prim.Native.Nat.{_-_, _≤_}
 use mathlib.Core.Path.{_≡_}
 use borrow.Author.Needs.{needs}

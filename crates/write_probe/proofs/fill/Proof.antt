@@ -1,4 +1,4 @@
--- `write_probe::fill` keeps within the output that it is lent. Assumes nothing.
+-- `write_probe::fill` stays within the output that it is lent. Assumes nothing.
 use Prim.Native.Nat.{_-_, _≤_}
 use mathlib.Core.Path.{_≡_}
 use borrow.Author.Needs.{needs}

@@ -1,4 +1,4 @@
--- `write_probe::run` keeps within the input, the samples and the output: a room above theirs is refused. Assumes nothing.
+-- `write_probe::run` stays within the input, the samples and the output: a larger room is refused. Assumes nothing.
 use native.Mathlib.Omega.{arith}
 use mathlib.Core.Path.{sym}
 use borrow.Author.Needs.{needs}

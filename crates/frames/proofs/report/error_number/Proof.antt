@@ -1,4 +1,4 @@
--- A number that is not negative fits. Assumes nothing.
+-- `frames::report::error_number` is safe: a number that is not negative fits. Assumes nothing.
 use native.Mathlib.Omega.{arith}
 use mathlib.Core.Path.{_≡_, sym}
 use mathlib.Core.Bool.{true, false, true≢false}

@@ -1,4 +1,4 @@
--- Each test of fLaC in turn. Assumes nothing.
+-- `frames::stream::is_header` meets its contract, byte by byte of fLaC. Assumes nothing.
 use borrow.Author.Needs.{needs}
 use Rattle.frames.proofs.Streams.{too-short, no-f, no-l, no-a, by-c}
 use Rattle.frames.proofs.stream.is_header.Statement.{statement}

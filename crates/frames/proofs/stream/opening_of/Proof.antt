@@ -1,4 +1,4 @@
--- The blocks that are left, and the place, give what the first block on gives. Assumes nothing.
+-- `frames::stream::opening_of` meets its contract: the blocks still left decide the answer. Assumes nothing.
 use Prim.Native.Nat.{_+_, _-_, _≤_}
 use native.Mathlib.Omega.{arith}
 use mathlib.Core.Path.{_≡_, sym, _∙_, ap}

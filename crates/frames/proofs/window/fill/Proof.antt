@@ -1,5 +1,4 @@
--- `frames::window::fill` goes on by reads that leave what is held (Filling). It ends: a read brings a byte, or is one of
--- so many that may be interrupted. Assumes nothing.
+-- `frames::window::fill` meets its contract, and ends: a read brings a byte or uses up a try. Assumes nothing.
 use Prim.Native.Nat.{_+_, _-_}
 use native.Mathlib.Omega.{arith}
 use borrow.Author.Needs.{needs}

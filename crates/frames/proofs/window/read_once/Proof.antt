@@ -1,4 +1,4 @@
--- What a read leaves of the window: the part that was lent to it comes after what was held. Assumes nothing.
+-- `frames::window::read_once` meets its contract: it reads into the part after the bytes held. Assumes nothing.
 use Prim.Native.Nat.{ℕ, _-_, _<_}
 use native.Mathlib.Omega.{arith}
 use mathlib.Core.Path.{_≡_}

@@ -1,4 +1,4 @@
--- An answer, case by case. Assumes nothing.
+-- What an answer reports, case by case. Assumes nothing.
 use mathlib.Core.Path.{ap, sym}
 use borrow.Author.Needs.{needs}
 use Rattle.rfc9639.specs.Read.{refusal}

@@ -1,4 +1,4 @@
--- The answer of `read_frame`, told. Assumes nothing.
+-- The answer of `frame::read_frame`, reported. Assumes nothing.
 use borrow.Author.Needs.{needs}
 use Rattle.thriftacorn.proofs.Reporting.{told}
 use Rattle.thriftacorn.proofs.read.thriftacorn_read_frame_v1.Statement.{statement}

@@ -1,4 +1,4 @@
--- The step of `read_next`, told. Assumes nothing.
+-- The step of `walk::read_next`, reported. Assumes nothing.
 use borrow.Author.Needs.{needs}
 use Rattle.thriftacorn.proofs.Reporting.{stepped}
 use Rattle.thriftacorn.proofs.read.thriftacorn_read_next_v1.Statement.{statement}
