@@ -7,7 +7,7 @@ use mathlib.Core.Bool.{Bool, true, false, cond}
 use borrow.Author.Tests.{lt-ltb, le-ltb}
 use lib.Dec.{ltb, eqb}
 use Rattle.rfc9639.specs.declared.ChannelAssignment.the-variants.{LeftSide, SideRight, MidSide}
-use Rattle.rfc9639.specs.Header.{assignment, channelCount}
+use Rattle.rfc9639.specs.HeaderCodes.{assignment, channelCount}
 
 -- a side channel comes with one other
 pub count-of-pair : (code : ℕ) → 8 ≤ code → channelCount (assignment code) ≡ 2

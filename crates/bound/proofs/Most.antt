@@ -8,7 +8,7 @@ use mathlib.Core.List.{map}
 use borrow.Author.Tests.{lt-ltb, le-ltb}
 use lib.Dec.{eqb}
 use Rattle.rfc9639.specs.declared.ChannelAssignment.the-variants.{Independent, LeftSide, SideRight, MidSide}
-use Rattle.rfc9639.specs.Header.{assignment, channelCount}
+use Rattle.rfc9639.specs.HeaderCodes.{assignment, channelCount}
 use Rattle.rfc9639.specs.Coding.{counting}
 use Rattle.rfc9639.specs.Write.{laneOf, lanes, laneWidth, mostBits}
 use Rattle.rfc9639.proofs.Listing.{channels-between}

@@ -9,7 +9,7 @@ use borrow.Author.Tests.{le-leb}
 use lib.IntN.{ℤ}
 use lib.ListN.{length}
 use Rattle.rfc9639.specs.declared.FrameSetting.{FrameSetting}
-use Rattle.rfc9639.specs.Header.{assignment, channelCount}
+use Rattle.rfc9639.specs.HeaderCodes.{assignment, channelCount}
 use Rattle.rfc9639.specs.Write.{frameBytes, frameBound, allowed, allFit, unwritten, write}
 use Rattle.rfc9639.proofs.Allowed.{allowed-facts}
 use Rattle.rfc9639.proofs.Bound.{within-bound}

@@ -2,7 +2,7 @@
 use Prim.Native.Nat.{ℕ, _*_}
 use Rattle.reading.specs.Reading.{if_then_else_}
 use Rattle.rfc9639.specs.declared.FrameSetting.{FrameSetting}
-use Rattle.rfc9639.specs.Header.{assignment, channelCount}
+use Rattle.rfc9639.specs.HeaderCodes.{assignment, channelCount}
 use Rattle.rfc9639.specs.Write.{allowed, frameBound}
 
 -- of as many samples as the settings want; 0 where no frame has such settings

@@ -3,7 +3,7 @@
 use rfc9639::FrameSetting;
 ghost use mathlib.Core.Path.{_≡_};
 ghost use Prim.Native.Nat.{_^_, _≤_};
-ghost use Rattle.rfc9639.specs.Header.{assignment, channelCount};
+ghost use Rattle.rfc9639.specs.HeaderCodes.{assignment, channelCount};
 ghost use Rattle.rfc9639.specs.Write.{writable, numberLimit, allowed, lanes as lanesOf, mostBits};
 ghost use Rattle.bound.specs.Longest.{longestOf};
 

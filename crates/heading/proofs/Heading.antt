@@ -10,7 +10,8 @@ use Rattle.reading.specs.Spelling.{bitsOf}
 use Rattle.reading.proofs.Spelling.{Binary, number, both}
 use Rattle.rfc9639.specs.declared.FrameSetting.{FrameSetting}
 use Rattle.rfc9639.specs.CheckSums.{crc8}
-use Rattle.rfc9639.specs.Write.{sizeCode, fieldBits, headerBits}
+use Rattle.rfc9639.specs.HeaderCodes.{sizeCode}
+use Rattle.rfc9639.specs.Write.{fieldBits, headerBits}
 use Rattle.rfc9639.proofs.Bound.{length-header, fields-whole}
 use Rattle.rfc9639.proofs.Whole.{bits-fields}
 use Rattle.output.specs.declared.Pen.{Pen}

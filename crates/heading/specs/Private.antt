@@ -3,7 +3,7 @@ use Prim.Native.Nat.{ℕ}
 use mathlib.Core.List.{List, _++_}
 use Rattle.reading.specs.Spelling.{bitsOf}
 use Rattle.rfc9639.specs.declared.FrameSetting.{FrameSetting}
-use Rattle.rfc9639.specs.Write.{sizeCode}
+use Rattle.rfc9639.specs.HeaderCodes.{sizeCode}
 
 -- the first three bytes: the codes before the channels'
 unfoldable pub threeBits : FrameSetting → List ℕ

@@ -15,47 +15,12 @@ use Rattle.rfc9639.specs.declared.Lane.{Lane}
 use Rattle.rfc9639.specs.declared.Lane.the-variants.{Channel, Mid, Side}
 use Rattle.rfc9639.specs.CheckSums.{crc8, crc16}
 use Rattle.rfc9639.specs.Integers.{shiftDown}
-use Rattle.rfc9639.specs.Header.{assignment, channelCount}
+use Rattle.rfc9639.specs.HeaderCodes.{syncCode, largestBlockSize, largestFrameNumber, largestSampleNumber, sizeCode, sizeBits, assignment, channelCount, bitsCode}
 use Rattle.rfc9639.specs.Stereo.{pairwise}
 use Rattle.rfc9639.specs.Frame.{padding}
 use Rattle.rfc9639.specs.Coding.{counting, subframeBits}
 
 -- ---- the header
-
--- Section 9.1.1: the code of the block size itself where there is one, else 6 or 7.
-unfoldable pub sizeCode : ℕ → ℕ
-sizeCode n =
-    if eqb n 192 then 1
-    else if eqb n 576 then 2
-    else if eqb n 1152 then 3
-    else if eqb n 2304 then 4
-    else if eqb n 4608 then 5
-    else if eqb n 256 then 8
-    else if eqb n 512 then 9
-    else if eqb n 1024 then 10
-    else if eqb n 2048 then 11
-    else if eqb n 4096 then 12
-    else if eqb n 8192 then 13
-    else if eqb n 16384 then 14
-    else if eqb n 32768 then 15
-    else if leb n 256 then 6
-    else 7
-
--- Section 9.1.6: the size less one behind the number, in 8 bits for code 6 and in 16 for code 7.
-unfoldable pub sizeBits : ℕ → List ℕ
-sizeBits n =
-    if eqb (sizeCode n) 6 then bitsOf 8 (n - 1)
-    else if eqb (sizeCode n) 7 then bitsOf 16 (n - 1)
-    else []
-
--- Section 9.1.4.
-unfoldable pub bitsCode : ℕ → ℕ
-bitsCode b =
-    if eqb b 8 then 1
-    else if eqb b 12 then 2
-    else if eqb b 16 then 4
-    else if eqb b 20 then 5
-    else 6
 
 -- n bytes 10xxxxxx
 unfoldable pub followers : ℕ → ℕ → List ℕ
@@ -76,7 +41,7 @@ numberBytes v =
 -- the first four bytes: the rate code is 0
 unfoldable pub codeBits : FrameSetting → List ℕ
 codeBits set =
-    bitsOf 15 0x7ffc ++ bitsOf 1 (set .blocking) ++ bitsOf 4 (sizeCode (set .size)) ++ bitsOf 4 0
+    bitsOf 15 syncCode ++ bitsOf 1 (set .blocking) ++ bitsOf 4 (sizeCode (set .size)) ++ bitsOf 4 0
     ++ bitsOf 4 (set .channels) ++ bitsOf 3 (bitsCode (set .bits)) ++ bitsOf 1 0
 
 -- the header before its check sum
@@ -159,12 +124,12 @@ writable b = eqb b 8 || eqb b 12 || eqb b 16 || eqb b 20 || eqb b 24
 
 -- the largest number, by the blocking
 unfoldable pub numberLimit : ℕ → ℕ
-numberLimit blocking = if eqb blocking 0 then 2147483647 else 2 ^ 36 - 1
+numberLimit blocking = if eqb blocking 0 then largestFrameNumber else largestSampleNumber
 
 -- settings that a frame of `count` samples can have
 unfoldable pub allowed : FrameSetting → ℕ → Bool
 allowed set count =
-    leb (set .channels) 10 && writable (set .bits) && leb (set .blocking) 1 && ltb 0 (set .size) && leb (set .size) 65535
+    leb (set .channels) 10 && writable (set .bits) && leb (set .blocking) 1 && ltb 0 (set .size) && leb (set .size) largestBlockSize
     && leb (set .number) (numberLimit (set .blocking)) && eqb count (channelCount (assignment (set .channels)) * set .size)
 
 -- in two's complement

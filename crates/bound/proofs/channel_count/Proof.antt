@@ -2,7 +2,7 @@
 use borrow.Author.Needs.{needs}
 use borrow.Author.Tests.{lt-ltb}
 use mathlib.Core.Path.{refl, sym}
-use Rattle.rfc9639.specs.Header.{assignment, channelCount}
+use Rattle.rfc9639.specs.HeaderCodes.{assignment, channelCount}
 use Rattle.bound.proofs.Allowing.{count-of-pair}
 use Rattle.bound.proofs.channel_count.Statement.{statement}
 use Rattle.bound.proofs.channel_count.Tie as tie

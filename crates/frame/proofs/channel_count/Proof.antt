@@ -1,6 +1,6 @@
 -- The channels of an assignment, as the definition counts them. Assumes nothing.
 use borrow.Author.Needs.{needs}
-use Rattle.rfc9639.specs.Header.{channelCount}
+use Rattle.rfc9639.specs.HeaderCodes.{channelCount}
 use Rattle.frame.proofs.channel_count.Statement.{statement}
 use Rattle.frame.proofs.channel_count.Tie as tie
 

@@ -6,7 +6,8 @@ use Rattle.reading.specs.Reading.{done, bits}
 use Rattle.reading.specs.Places.{gotAt, runAt}
 use Rattle.reading.proofs.Running.{stays-in, bind-got, bind-short}
 use Rattle.input.proofs.Laws.{read-got, read-short, bit-is}
-use Rattle.rfc9639.specs.Header.{bitDepth, depthAndZero}
+use Rattle.rfc9639.specs.HeaderCodes.{bitDepth}
+use Rattle.rfc9639.specs.Header.{depthAndZero}
 use Rattle.demands.proofs.Frames.{depth-holds}
 use Rattle.header.specs.Private.{depthTree}
 use Rattle.header.proofs.Stepping.{check-fails, check-done, known-done, known-stops}

@@ -3,7 +3,7 @@ use borrow.Author.Tests.{ne-eqb, le-leb, lt-leb}
 use mathlib.Core.Path.{_≡_, sym, _∙_}
 use mathlib.Core.Bool.{cond}
 use lib.Dec.{leb}
-use Rattle.rfc9639.specs.Write.{sizeCode}
+use Rattle.rfc9639.specs.HeaderCodes.{sizeCode}
 use Rattle.heading.proofs.size_code.Statement.{statement}
 use Rattle.heading.proofs.size_code.Tie as tie
 
