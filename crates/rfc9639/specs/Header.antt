@@ -1,5 +1,5 @@
--- The frame header (RFC 9639 section 9.1), with its checks in the order of the fields, each as soon as its field is
--- there. A refusal's number is document 01's.
+-- The frame header (RFC 9639 section 9.1). The fields are checked in their order, each as soon as it is read.
+-- A refusal's number is document 01's.
 use Prim.Native.Nat.{ℕ, _*_, _/_, _%_}
 use mathlib.Core.Bool.{_||_}
 use lib.Dec.{leb, ltb, eqb}
@@ -17,14 +17,14 @@ use Rattle.rfc9639.specs.Number.{codedNumber}
 unfoldable pub timeOf : ℕ → ℕ → BlockTime
 timeOf blocking n = if eqb blocking 0 then FrameNumber n else SampleNumber n
 
--- Fifteen sync bits and the blocking bit, which is handed on: judged at two bytes.
+-- The sync code and the blocking bit, which is the result. Both bytes are read before the sync code is checked.
 unfoldable pub sync : Ask ℕ
 sync = do
   v ← bits 16
   require (eqb (v / 2) syncCode) 3
   done (v % 2)
 
--- the third byte: the codes of the size and of the rate
+-- the third byte: the codes of the block size and of the sample rate
 unfoldable pub sizeAndRate : Ask (ℕ × ℕ)
 sizeAndRate = do
   size ← bits 4
@@ -33,7 +33,7 @@ sizeAndRate = do
   require (ltb rate 15) 4
   done (size, rate)
 
--- the bits of a sample, and the bit behind them that must be zero
+-- the bits of a sample, and the bit after them, which must be zero
 unfoldable pub depthAndZero : Ask ℕ
 depthAndZero = do
   code ← bits 3
@@ -42,7 +42,7 @@ depthAndZero = do
   require (eqb reserved 0) 4
   done depth
 
--- the fourth byte
+-- the fourth byte: the channels and the bits of a sample
 unfoldable pub channelsAndBits : Ask (ChannelAssignment × ℕ)
 channelsAndBits = do
   code ← bits 4
@@ -58,21 +58,21 @@ codes = do
   (channels, depth) ← channelsAndBits
   done (record { blocking = blocking; size = size; rate = rate; channels = channels; bits = depth })
 
--- A frame's number has at most 31 bits, which is judged at its last byte.
+-- A frame's number has at most 31 bits, which is checked once its last byte is read.
 unfoldable pub blockTime : ℕ → Ask BlockTime
 blockTime blocking = do
   number ← codedNumber
   require (eqb blocking 1 || leb number largestFrameNumber) 5
   done (timeOf blocking number)
 
--- Section 9.1.8: over all bytes of the header before it.
+-- Section 9.1.8: the check sum of all header bytes before it.
 unfoldable pub headerSum : Ask (Unit {0})
 headerSum = do
   before ← passed
   sum ← bits 8
   require (eqb sum (crc8 before)) 6
 
--- the header behind its first four bytes
+-- the header after its first four bytes
 unfoldable pub headerBehind : Codes → Ask FrameHeader
 headerBehind c = do
   time ← blockTime (c .blocking)
@@ -88,7 +88,7 @@ header = do
 
 -- ---- what a header says of its frame
 
--- N: samples of all channels
+-- the samples of all channels together
 unfoldable pub sampleCount : FrameHeader → ℕ
 sampleCount h = channelCount (h .channels) * h .size
 

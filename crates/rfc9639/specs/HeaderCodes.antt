@@ -1,5 +1,5 @@
--- The numbers of the frame header that the reader and the writer share (RFC 9639 section 9.1): its constants, and its code
--- tables, each in both directions. A refusal's number is document 01's.
+-- The numbers of the frame header that the reader and the writer share (RFC 9639 section 9.1): its constants, and its
+-- code tables, each in both directions. A refusal's number is document 01's.
 use Prim.Native.Nat.{ℕ, _+_, _-_, _*_, _^_}
 use mathlib.Core.List.{List, []}
 use lib.Dec.{leb, ltb, eqb}
@@ -65,8 +65,8 @@ sizeBits n =
 
 -- ---- the sample rate
 
--- Section 9.1.7: how many bits of the sample rate follow the coded number. No sample depends on the rate. The writer writes
--- code 0.
+-- Section 9.1.7: how many bits of the sample rate follow the coded number. No sample depends on the rate. The writer
+-- writes code 0.
 unfoldable pub rateBits : ℕ → ℕ
 rateBits code =
     if eqb code 12 then 8

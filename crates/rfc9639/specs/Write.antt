@@ -1,4 +1,4 @@
--- The frame that the writer writes (RFC 9639 section 9; document 01, "The added writer"), and what writing comes to.
+-- The frame that the writer writes (RFC 9639 section 9; document 01, "The added writer"), and the result of writing.
 use Prim.Native.Nat.{ℕ, zero, suc, _+_, _-_, _*_, _/_, _%_, _^_}
 use mathlib.Core.Bool.{Bool, true, false, _&&_, _||_}
 use mathlib.Core.List.{List, [], _∷_, _++_, map}
@@ -76,7 +76,7 @@ midOf left right = shiftDown 1 (left +ℤ right)
 unfoldable pub sideOf : ℤ → ℤ → ℤ
 sideOf left right = left -ℤ right
 
--- channel c of samples that stand channel after channel, n each
+-- channel c of samples that are stored channel after channel, n for each
 unfoldable pub channel : ℕ → List ℤ → ℕ → List ℤ
 channel n xs c = take n (drop (c * n) xs)
 
@@ -93,11 +93,11 @@ laneBits b n xs lane = subframeBits (laneWidth b lane) (stored n xs lane)
 unfoldable pub subframesBits : FrameSetting → List ℤ → List ℕ
 subframesBits set xs = row (laneBits (set .bits) (set .size) xs) (lanes (assignment (set .channels)))
 
--- up to whole bytes
+-- with zeros up to a whole byte
 unfoldable pub padded : List ℕ → List ℕ
 padded s = s ++ replicate (padding (length s)) 0
 
--- Section 9.3: the sum is over all bytes before it.
+-- Section 9.3: the check sum of all bytes before it.
 unfoldable pub footed : List ℕ → List ℕ
 footed s = s ++ bitsOf 16 (crc16 s)
 
@@ -108,21 +108,22 @@ frameBits set xs = footed (padded (headerBits set ++ subframesBits set xs))
 unfoldable pub frameBytes : FrameSetting → List ℤ → List ℕ
 frameBytes set xs = packed (frameBits set xs)
 
--- The most bits of subframes: for each channel a header of 8 and the samples as they are.
+-- The most bits that the subframes take: for each channel a header of 8 bits and the samples as they are.
 unfoldable pub mostBits : ℕ → ℕ → List Lane → ℕ
 mostBits b n [] = 0
 mostBits b n (lane ∷ ls) = 8 + n * laneWidth b lane + mostBits b n ls
 
--- the most bytes of a frame
+-- the most bytes that a frame takes
 unfoldable pub frameBound : FrameSetting → ℕ
 frameBound set = 16 + (mostBits (set .bits) (set .size) (lanes (assignment (set .channels))) + 7) / 8
 
--- ---- what writing comes to
+-- ---- the result of writing
 
+-- the bits of a sample that can be written
 unfoldable pub writable : ℕ → Bool
 writable b = eqb b 8 || eqb b 12 || eqb b 16 || eqb b 20 || eqb b 24
 
--- the largest number, by the blocking
+-- the largest number: a frame's where the blocking bit is 0, else a sample's
 unfoldable pub numberLimit : ℕ → ℕ
 numberLimit blocking = if eqb blocking 0 then largestFrameNumber else largestSampleNumber
 
@@ -132,7 +133,7 @@ allowed set count =
     leb (set .channels) 10 && writable (set .bits) && leb (set .blocking) 1 && ltb 0 (set .size) && leb (set .size) largestBlockSize
     && leb (set .number) (numberLimit (set .blocking)) && eqb count (channelCount (assignment (set .channels)) * set .size)
 
--- in two's complement
+-- a sample of w bits, in two's complement
 unfoldable pub fits : ℕ → ℤ → Bool
 fits w (pos n) = ltb n (2 ^ (w - 1))
 fits w (negsuc n) = ltb n (2 ^ (w - 1))
@@ -141,7 +142,7 @@ unfoldable pub allFit : ℕ → List ℤ → Bool
 allFit w [] = true
 allFit w (x ∷ xs) = fits w x && allFit w xs
 
--- `number` is 0 for a frame, else the refusal's; of a refusal the length is 0
+-- `number` is 0 for a frame, else the refusal's number; the length of a refusal is 0
 pub record Written : Type 0 where
   pub number : ℕ
   pub length : ℕ
@@ -150,7 +151,7 @@ pub record Written : Type 0 where
 unfoldable pub unwritten : ℕ → List ℕ → Written
 unwritten n out = record { number = n; length = 0; output = out }
 
--- What writing some samples into an output comes to.
+-- The result of writing some samples into an output.
 unfoldable pub write : FrameSetting → List ℤ → List ℕ → Written
 write set xs out =
     if allowed set (length xs)
