@@ -2,8 +2,8 @@
 use borrow.Author.Needs.{needs}
 use borrow.Author.Tests.{lt-ltb, le-ltb, ne-eqb}
 use Rattle.rfc9639.specs.HeaderCodes.{assignment}
-use Rattle.header.proofs.channel_assignment.Statement.{statement}
-use Rattle.header.proofs.channel_assignment.Tie as tie
+use Rattle.header_codes.proofs.channel_assignment.Statement.{statement}
+use Rattle.header_codes.proofs.channel_assignment.Tie as tie
 
 add-t4 : tie.Need-add-t4
 add-t4 c = search needs

@@ -4,8 +4,8 @@ use mathlib.Core.Path.{_≡_, sym, _∙_}
 use mathlib.Core.Bool.{cond}
 use lib.Dec.{leb}
 use Rattle.rfc9639.specs.HeaderCodes.{sizeCode}
-use Rattle.heading.proofs.size_code.Statement.{statement}
-use Rattle.heading.proofs.size_code.Tie as tie
+use Rattle.header_codes.proofs.size_code.Statement.{statement}
+use Rattle.header_codes.proofs.size_code.Tie as tie
 
 returns : tie.Need-returns
 unfolding sizeCode
