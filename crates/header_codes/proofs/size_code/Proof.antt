@@ -59,7 +59,7 @@ returns-13 : tie.Need-returns-13
 unfolding sizeCode
 returns-13 c = rw (c .match .keys13)
 
--- behind the arms the size has no code of its own
+-- after all arms the size has no code of its own
 uncoded : (c : tie.At-match-rest) → sizeCode (c .before .args .n) ≡ cond (leb (c .before .args .n) 256) 6 7
 unfolding sizeCode
 uncoded c =

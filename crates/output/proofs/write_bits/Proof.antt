@@ -1,4 +1,4 @@
--- The loop inks the bits of the number, the highest first; its invariant is Unwritten. Assumes nothing.
+-- The loop inks the bits of the number, the highest first; its invariant is BitsLeft. Assumes nothing.
 use Prim.Native.Nat.{_≤_, _<_}
 use borrow.Author.Needs.{needs}
 use borrow.Author.Tests.{not-true, not-false}
@@ -9,12 +9,12 @@ use mathlib.Core.Path.{sym}
 use Rattle.reading.specs.Spelling.{bitsOf}
 use Rattle.reading.proofs.Bits.{one-shifted}
 use Rattle.output.proofs.Inking.{inked-none}
-use Rattle.output.proofs.Writing.{Unwritten, begin, out, step-bits, end-bits}
+use Rattle.output.proofs.Writing.{BitsLeft, begin, out, step-bits, end-bits}
 use Rattle.output.proofs.write_bits.Statement.{statement}
 use Rattle.output.proofs.write_bits.Tie as tie
 
 abbrev Inv-loop : tie.InvT-loop
-Inv-loop out₀ n v p₀ left₀ out p left = (left ≤ n) × Unwritten (bitsOf n v) p₀ out₀ (bitsOf left v) p out
+Inv-loop out₀ n v p₀ left₀ out p left = (left ≤ n) × BitsLeft (bitsOf n v) p₀ out₀ (bitsOf left v) p out
 
 abbrev μ-loop : tie.MeasureT-loop
 μ-loop out₀ n v p₀ left₀ out p left = left
