@@ -1,5 +1,5 @@
-// The code tables of the frame header (RFC 9639 sections 9.1.1 to 9.1.7), for the reader and for the writer. Each function
-// answers on every code and every value as the definition does (rfc9639/specs/HeaderCodes.antt).
+// The code tables of the frame header (RFC 9639 sections 9.1.1 to 9.1.7), for the reader and for the writer. Each
+// function answers on every code and every value as the definition does (rfc9639/specs/HeaderCodes.antt).
 use error::Refusal;
 use rfc9639::ChannelAssignment;
 ghost use mathlib.Core.Path.{_≡_};
@@ -49,8 +49,7 @@ pub fn rate_bits(code: u64) -> u32
     0
 }
 
-// How the channels are stored (RFC 9639 section 9.1.3). The codes above 10 are reserved; whoever asks for them has refused
-// them before.
+// How the channels are stored (RFC 9639 section 9.1.3). Callers refuse the reserved codes, 11 to 15, before.
 pub fn channel_assignment(code: u64) -> ChannelAssignment
     ensures { λ r. ⌜ r ≡ assignment code ⌝ }
 {
@@ -111,7 +110,7 @@ pub fn bit_depth(code: u64) -> Depth
     Depth::Refused(Refusal::NotDone)
 }
 
-// RFC 9639 section 9.1.4. Any other number of bits gets the code of 24: whoever writes has refused it before.
+// RFC 9639 section 9.1.4. Callers refuse any number of bits without a code before.
 pub fn bits_code(b: u32) -> u64
     ensures { λ r. ⌜ r ≡ bitsCode b ⌝ }
 {
