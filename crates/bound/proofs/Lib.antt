@@ -1,4 +1,4 @@
--- Laws of the settings' tests and of the most bits; that no frame is longer; and one outcome for each function.
+-- Laws of the settings' tests, of the most bits and of the longest length; one outcome for each function.
 pub mod Allowing
 pub mod Most
 pub mod Within

@@ -1,4 +1,4 @@
--- The most bits of the subframes as one product, and what they come to at most. Assumes nothing.
+-- The most bits that the subframes take, as one product, and an upper bound of it. Assumes nothing.
 use Prim.Native.Nat.{ℕ, zero, suc, _+_, _*_, _≤_, _<_}
 use native.Mathlib.Nat.{mul-le-mul-right, mul-le-mul-left, mul-add, suc-mul}
 use native.Mathlib.Omega.{arith}
@@ -8,20 +8,20 @@ use mathlib.Core.List.{map}
 use borrow.Author.Tests.{lt-ltb, le-ltb}
 use lib.Dec.{eqb}
 use Rattle.rfc9639.specs.declared.ChannelAssignment.the-variants.{Independent, LeftSide, SideRight, MidSide}
-use Rattle.rfc9639.specs.Header.{assignment, channelCount}
+use Rattle.rfc9639.specs.HeaderCodes.{largestBlockSize, assignment, channelCount}
 use Rattle.rfc9639.specs.Coding.{counting}
 use Rattle.rfc9639.specs.Write.{laneOf, lanes, laneWidth, mostBits}
 use Rattle.rfc9639.proofs.Listing.{channels-between}
 
--- a header of 8 bits and the samples as they are
-pub each-fits : (b n : ℕ) → b ≤ 24 → n ≤ 65535 → n * b ≤ 1572840
-each-fits b n h k = omega (arith, mul-le-mul-right b k, mul-le-mul-left 65535 h)
+-- the samples of one channel, and all channels with their headers
+pub each-fits : (b n : ℕ) → b ≤ 24 → n ≤ largestBlockSize → n * b ≤ 1572840
+each-fits b n h k = omega (arith, mul-le-mul-right b k, mul-le-mul-left largestBlockSize h)
 
 pub all-fits : (code each : ℕ) → each ≤ 1572848 → channelCount (assignment code) * each ≤ 12582784
 all-fits code each h = omega (arith, mul-le-mul-right each (channels-between code .1))
 
 module _ (b n : ℕ) where
-  -- so many independent channels, from some channel on
+  -- m independent channels, from some channel on
   independent : (k from m : ℕ) → mostBits b n (map (laneOf (Independent k)) (counting from m)) ≡ m * (8 + n * b)
   unfolding mostBits laneOf laneWidth counting
   independent k from zero = omega arith
@@ -31,7 +31,7 @@ module _ (b n : ℕ) where
   unfolding assignment channelCount lanes
   most-independent code h = rw (lt-ltb _ _ h) (sym (independent (code + 1) 0 (code + 1)))
 
-  -- a side channel and another
+  -- a side channel and one other
   pub most-pair : (code : ℕ) → 8 ≤ code → channelCount (assignment code) * (8 + n * b) + n ≡ mostBits b n (lanes (assignment code))
   unfolding assignment channelCount lanes mostBits laneOf laneWidth counting
   most-pair code h = rw (le-ltb _ _ h) (go (eqb code 8) (eqb code 9))

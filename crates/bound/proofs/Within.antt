@@ -1,5 +1,4 @@
--- What `longestOf` says: no frame is longer, so an output of that length is never refused 13; and where it is 0, no
--- frame is written. Assumes nothing.
+-- The longest length: no frame is longer, so such an output is never refused by 13; 0 means no frame. Assumes nothing.
 use Prim.Native.Nat.{ℕ, _*_, _≤_, _<_}
 use native.Mathlib.Omega.{arith}
 use mathlib.Core.Path.{_≡_, refl, ap, sym, _∙_, subst}
@@ -9,7 +8,7 @@ use borrow.Author.Tests.{le-leb}
 use lib.IntN.{ℤ}
 use lib.ListN.{length}
 use Rattle.rfc9639.specs.declared.FrameSetting.{FrameSetting}
-use Rattle.rfc9639.specs.Header.{assignment, channelCount}
+use Rattle.rfc9639.specs.HeaderCodes.{largestBlockSize, assignment, channelCount}
 use Rattle.rfc9639.specs.Write.{frameBytes, frameBound, allowed, allFit, unwritten, write}
 use Rattle.rfc9639.proofs.Allowed.{allowed-facts}
 use Rattle.rfc9639.proofs.Bound.{within-bound}
@@ -27,7 +26,7 @@ module _ (set : FrameSetting) where
   unfolding longestOf
   longest-none e = rw e
 
-  pub too-large : 65535 < set .size → allowed set wanted ≡ false
+  pub too-large : largestBlockSize < set .size → allowed set wanted ≡ false
   too-large h = go (allowed set wanted) refl
     where
       go : (t : Bool) → allowed set wanted ≡ t → t ≡ false

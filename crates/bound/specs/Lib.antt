@@ -1,2 +1,2 @@
--- How long a frame is at most.
+-- How long a frame can be.
 pub mod Longest

@@ -2,9 +2,9 @@
 use Prim.Native.Nat.{ℕ, _*_}
 use Rattle.reading.specs.Reading.{if_then_else_}
 use Rattle.rfc9639.specs.declared.FrameSetting.{FrameSetting}
-use Rattle.rfc9639.specs.Header.{assignment, channelCount}
+use Rattle.rfc9639.specs.HeaderCodes.{assignment, channelCount}
 use Rattle.rfc9639.specs.Write.{allowed, frameBound}
 
--- of as many samples as the settings want; 0 where no frame has such settings
+-- for as many samples as the settings ask for; 0 where no frame can have such settings
 unfoldable pub longestOf : FrameSetting → ℕ
 longestOf set = if allowed set (channelCount (assignment (set .channels)) * set .size) then frameBound set else 0

@@ -1,19 +1,23 @@
-// What bounds a frame that is written: which settings it can have, and how long it is at most with them (document 01,
-// "The added writer"). Each function answers on every argument by the definition.
+// The limits of a frame that is written: which settings it can have, and how long it can be with them (document 01,
+// "The added writer"). Each function answers on every argument as the definition does.
 use rfc9639::FrameSetting;
+use rfc9639::LARGEST_BLOCK_SIZE;
+use rfc9639::LARGEST_FRAME_NUMBER;
+use rfc9639::LARGEST_SAMPLE_NUMBER;
 ghost use mathlib.Core.Path.{_≡_};
 ghost use Prim.Native.Nat.{_^_, _≤_};
-ghost use Rattle.rfc9639.specs.Header.{assignment, channelCount};
+ghost use Rattle.rfc9639.specs.HeaderCodes.{largestBlockSize, assignment, channelCount};
 ghost use Rattle.rfc9639.specs.Write.{writable, numberLimit, allowed, lanes as lanesOf, mostBits};
 ghost use Rattle.bound.specs.Longest.{longestOf};
 
-// RFC 9639 section 9.1.3.
+// The channels of a code of RFC 9639 section 9.1.3.
 pub fn channel_count(code: u32) -> usize
     ensures { λ r. ⌜ r ≡ channelCount (assignment code) ⌝ }
 {
-    if code < 8 { code as usize + 1 } else { 2 }
+    header_codes::channel_count(header_codes::channel_assignment(code as u64))
 }
 
+// The bits of a sample that can be written.
 fn is_writable(bits: u32) -> bool
     ensures { λ r. ⌜ r ≡ writable bits ⌝ }
 {
@@ -32,17 +36,17 @@ fn is_writable(bits: u32) -> bool
     bits == 24
 }
 
-// A frame's number has 31 bits at most, a sample's 36.
+// The largest number: a frame's where the blocking bit is 0, else a sample's.
 fn number_limit(blocking: u32) -> u64
     ensures { λ r. ⌜ r ≡ numberLimit blocking ⌝ }
 {
     if blocking == 0 {
-        return 2147483647;
+        return LARGEST_FRAME_NUMBER;
     }
-    0xf_ffff_ffff
+    LARGEST_SAMPLE_NUMBER
 }
 
-// The count is the samples' of all channels.
+// Whether a frame can have these settings; `count` is the samples of all channels together.
 pub fn is_allowed(set: FrameSetting, count: usize) -> bool
     ensures { λ r. ⌜ r ≡ allowed set count ⌝ }
 {
@@ -63,7 +67,7 @@ pub fn is_allowed(set: FrameSetting, count: usize) -> bool
     if size == 0 {
         return false;
     }
-    if 65535 < size {
+    if LARGEST_BLOCK_SIZE < size {
         return false;
     }
     if number_limit(blocking) < number {
@@ -72,9 +76,9 @@ pub fn is_allowed(set: FrameSetting, count: usize) -> bool
     count == channel_count(channels) * size
 }
 
-// The most bits of a frame's subframes. A side channel is one bit wider.
+// The most bits that a frame's subframes take. A side channel is one bit wider.
 fn most_bits(channels: u32, bits: u32, size: usize) -> usize
-    requires { ⌜ (bits ≤ 24) × (size ≤ 65535) ⌝ }
+    requires { ⌜ (bits ≤ 24) × (size ≤ largestBlockSize) ⌝ }
     ensures { λ r. ⌜ (r ≡ mostBits bits size (lanesOf (assignment channels))) × (r ≤ 2 ^ 24) ⌝ }
 {
     let each = 8 + size * bits as usize;
@@ -82,8 +86,8 @@ fn most_bits(channels: u32, bits: u32, size: usize) -> usize
     if channels < 8 { all } else { all + size }
 }
 
-// The length that no frame with these settings exceeds, in bytes; 0 where no frame is written with them. An output of
-// that length is never refused 13 (proofs/Within.antt).
+// The length that no frame with these settings exceeds, in bytes; 0 where no frame can have them. An output of that
+// length is never too short (`never-refused` of proofs/).
 pub fn longest(channels: u32, bits: u32, blocking: u32, number: u64, size: usize) -> usize
     ensures { λ r. ⌜ r ≡ longestOf (record { channels = channels; bits = bits; blocking = blocking; number = number; size = size }) ⌝ }
 {
@@ -94,8 +98,8 @@ pub fn longest(channels: u32, bits: u32, blocking: u32, number: u64, size: usize
         number,
         size,
     };
-    // so that the count fits a usize
-    if 65535 < size {
+    // So the count fits a usize.
+    if LARGEST_BLOCK_SIZE < size {
         return 0;
     }
     let count = channel_count(channels) * size;

@@ -13,7 +13,8 @@ use Rattle.rfc9639.specs.declared.BlockTime.{BlockTime}
 use Rattle.rfc9639.specs.declared.Codes.{Codes}
 use Rattle.rfc9639.specs.declared.FrameHeader.{FrameHeader}
 use Rattle.rfc9639.specs.Number.{followed, numberFrom, codedNumber}
-use Rattle.rfc9639.specs.Header.{bitDepth, blockSize, rateBits, timeOf, sync, sizeAndRate, depthAndZero, channelsAndBits, codes, blockTime, headerSum, headerBehind, header, channelCount, firstSample}
+use Rattle.rfc9639.specs.HeaderCodes.{bitDepth, blockSize, rateBits, channelCount}
+use Rattle.rfc9639.specs.Header.{timeOf, sync, sizeAndRate, depthAndZero, channelsAndBits, codes, blockTime, headerSum, headerBehind, header, firstSample}
 use Rattle.rfc9639.proofs.Listing.{channels-between}
 
 -- the refusals of document 01 that a frame can have

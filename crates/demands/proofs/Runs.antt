@@ -18,7 +18,8 @@ use Rattle.reading.proofs.Prefixes.{passed-at, passed-length}
 use Rattle.rfc9639.specs.declared.ChannelAssignment.{ChannelAssignment}
 use Rattle.rfc9639.specs.declared.ChannelAssignment.the-variants.{Independent, LeftSide, SideRight, MidSide}
 use Rattle.rfc9639.specs.declared.FrameHeader.{FrameHeader}
-use Rattle.rfc9639.specs.Header.{header, channelCount, sampleCount}
+use Rattle.rfc9639.specs.HeaderCodes.{channelCount}
+use Rattle.rfc9639.specs.Header.{header, sampleCount}
 use Rattle.rfc9639.specs.Subframe.{subframeHeader, subframe}
 use Rattle.rfc9639.specs.Frame.{Settings, opening, widths, padding, footer, body, Frame, frame}
 use Rattle.rfc9639.specs.Stereo.{joined}

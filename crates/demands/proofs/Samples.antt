@@ -17,7 +17,8 @@ use Rattle.rfc9639.specs.declared.SubframeType.{SubframeType}
 use Rattle.rfc9639.specs.declared.SubframeType.the-variants.{Constant, Verbatim, Fixed, Lpc}
 use Rattle.rfc9639.specs.declared.FrameHeader.{FrameHeader}
 use Rattle.rfc9639.specs.Integers.{shiftUp, sample}
-use Rattle.rfc9639.specs.Header.{channelCount, sampleCount}
+use Rattle.rfc9639.specs.HeaderCodes.{channelCount}
+use Rattle.rfc9639.specs.Header.{sampleCount}
 use Rattle.rfc9639.specs.Residual.{rice, coded, partition, partitionSizes, residual}
 use Rattle.rfc9639.specs.Prediction.{restored, predict}
 use Rattle.rfc9639.specs.Subframe.{subframeType, wastedBits, wastedJudged, kindAndWasted, subframeHeader, orderOf, fixed, quantization, lpcBehind, lpc, samples, subframeBehind, subframe}

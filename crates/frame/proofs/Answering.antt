@@ -18,7 +18,8 @@ use Rattle.error.specs.declared.Refusal.{Refusal}
 use Rattle.error.specs.declared.Refusal.the-variants.{NothingLeft, CutShort, NoRoom, NotDone}
 use Rattle.error.specs.Numbers.{numberOf, refusedBy}
 use Rattle.rfc9639.specs.declared.FrameHeader.{FrameHeader}
-use Rattle.rfc9639.specs.Header.{sync, codes, header, channelCount, sampleCount, firstSample}
+use Rattle.rfc9639.specs.HeaderCodes.{channelCount}
+use Rattle.rfc9639.specs.Header.{sync, codes, header, sampleCount, firstSample}
 use Rattle.rfc9639.specs.Frame.{Settings, body}
 use Rattle.rfc9639.specs.Read.{accepted, Result, untouched, zeroed, cutShort, result, read}
 use Rattle.demands.proofs.Cases as cases

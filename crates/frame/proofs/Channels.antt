@@ -21,7 +21,8 @@ use Rattle.rfc9639.specs.declared.BlockTime.the-variants.{FrameNumber, SampleNu
 use Rattle.rfc9639.specs.declared.ChannelAssignment.{ChannelAssignment}
 use Rattle.rfc9639.specs.declared.ChannelAssignment.the-variants.{Independent, LeftSide, SideRight, MidSide}
 use Rattle.rfc9639.specs.declared.FrameHeader.{FrameHeader}
-use Rattle.rfc9639.specs.Header.{channelCount, firstSample}
+use Rattle.rfc9639.specs.HeaderCodes.{channelCount}
+use Rattle.rfc9639.specs.Header.{firstSample}
 use Rattle.rfc9639.specs.Subframe.{subframe}
 use Rattle.rfc9639.specs.Stereo.{joined}
 use Rattle.rfc9639.specs.Frame.{widths, footer, body}

@@ -24,7 +24,8 @@ use Rattle.rfc9639.specs.declared.Codes.{Codes}
 use Rattle.rfc9639.specs.declared.FrameHeader.{FrameHeader}
 use Rattle.rfc9639.specs.CheckSums.{crc8}
 use Rattle.rfc9639.specs.Number.{codedNumber}
-use Rattle.rfc9639.specs.Header.{blockSize, rateBits, timeOf, codes, blockTime, headerSum, header}
+use Rattle.rfc9639.specs.HeaderCodes.{blockSize, rateBits}
+use Rattle.rfc9639.specs.Header.{timeOf, codes, blockTime, headerSum, header}
 use Rattle.demands.proofs.Frames.{Early, Coded, codes-holds, Sound, header-holds}
 use Rattle.header.specs.declared.HeaderRead.{HeaderRead}
 use Rattle.header.specs.Answers.{headed}

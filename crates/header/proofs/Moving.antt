@@ -11,7 +11,8 @@ use Rattle.reading.specs.Reading.{nextBits, Ask, done, stop, ask, _>>=_, bits, 
 use Rattle.reading.specs.Places.{gotAt, inside, runAt}
 use Rattle.reading.proofs.Running.{In, inside-in, stays-in, runAt-out, runAt-done, runAt-stop, bind-parts, bits-on}
 use Rattle.rfc9639.specs.Number.{followed, numberFrom, codedNumber}
-use Rattle.rfc9639.specs.Header.{bitDepth, blockSize, rateBits, sync, sizeAndRate, depthAndZero, channelsAndBits, codes, blockTime}
+use Rattle.rfc9639.specs.HeaderCodes.{bitDepth, blockSize, rateBits}
+use Rattle.rfc9639.specs.Header.{sync, sizeAndRate, depthAndZero, channelsAndBits, codes, blockTime}
 
 -- Zeros have no length that the tree tells, and what was passed is not asked for here.
 pub data Moves {A : Type 0} : ℕ → ℕ → Ask A → Type 0 where

@@ -1,16 +1,14 @@
 -- What the answers of the header's private functions mean, in the words of the definition: only contracts of private
 -- functions name it, so nobody has to believe it.
 use Prim.Native.Nat.{ℕ}
-use Rattle.reading.specs.Reading.{Ask, done, stop}
 use Rattle.reading.specs.Places.{At, gotAt}
 use Rattle.error.specs.declared.Refusal.{Refusal}
-use Rattle.error.specs.Numbers.{numberOf, refusedBy}
+use Rattle.error.specs.Numbers.{refusedBy}
 use Rattle.rfc9639.specs.declared.BlockTime.{BlockTime}
 use Rattle.rfc9639.specs.declared.ChannelAssignment.{ChannelAssignment}
 use Rattle.rfc9639.specs.declared.Codes.{Codes}
 use Rattle.header.specs.declared.answers.Field.{Field}
 use Rattle.header.specs.declared.answers.Third.{Third}
-use Rattle.header.specs.declared.answers.Depth.{Depth}
 use Rattle.header.specs.declared.answers.Fourth.{Fourth}
 use Rattle.header.specs.declared.answers.CodesRead.{CodesRead}
 use Rattle.header.specs.declared.answers.Time.{Time}
@@ -23,10 +21,6 @@ fielded (Field.Refused e) = refusedBy e
 abbrev pub thirdly : Third → At (ℕ × ℕ)
 thirdly (Third.Codes size rate p) = gotAt (size, rate) p
 thirdly (Third.Refused e) = refusedBy e
-
-abbrev pub depthTree : Depth → Ask ℕ
-depthTree (Depth.Bits n) = done n
-depthTree (Depth.Refused e) = stop (numberOf e)
 
 abbrev pub fourthly : Fourth → At (ChannelAssignment × ℕ)
 fourthly (Fourth.Channels c n p) = gotAt (c, n) p

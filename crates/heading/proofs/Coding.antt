@@ -1,5 +1,4 @@
--- The coded number, byte by byte (RFC 9639 section 9.1.5): a byte in front of others, and what the loop over the bytes behind
--- the first keeps. Assumes nothing.
+-- The coded number, written byte by byte (RFC 9639 section 9.1.5): the loop over the following bytes. Assumes nothing.
 use Prim.Native.Nat.{ℕ, zero, suc, _+_, _*_, _-_, _/_, _%_, _^_, _≤_, _<_}
 use native.Mathlib.Nat.{pow-suc}
 use native.Mathlib.Omega.{arith}
@@ -12,11 +11,11 @@ use Rattle.reading.specs.Spelling.{bitsOf}
 use Rattle.reading.proofs.Spelling.{bits-bitsOf, bits-cons}
 use Rattle.rfc9639.specs.Write.{followers}
 use Rattle.output.specs.declared.Pen.{Pen}
-use Rattle.output.specs.Ink.{State, inked}
+use Rattle.output.specs.Ink.{inked, Writes}
 use Rattle.output.proofs.Inking.{inked-append, inked-nothing, inked-length}
 
--- A byte written is the first of some.
-pub byte-first : (b : ℕ) (bs : List ℕ) (p : Pen) (s : List ℕ) {q : Pen} {t : List ℕ} → _≡_ {A = State} (record { pen = q; bytes = t }) (inked (bitsOf 8 b) p s)
+-- A byte, written before some others, is the first of all of them.
+pub byte-first : (b : ℕ) (bs : List ℕ) (p : Pen) (s : List ℕ) {q : Pen} {t : List ℕ} → Writes (bitsOf 8 b) p s q t
     → inked (bitsOfBytes bs) q t ≡ inked (bitsOfBytes (b ∷ bs)) p s
 byte-first b bs p s e =
     ap (λ x. inked (bitsOfBytes bs) (x .pen) (x .bytes)) e ∙ sym (inked-append (bitsOf 8 b) (bitsOfBytes bs) p s (bits-bitsOf 8 b))
@@ -28,7 +27,7 @@ sixes zero = refl
 sixes (suc m) =
     ap (λ k. 2 ^ k) (let e : 6 * suc m ≡ 6 * m + 6 = omega arith in e) ∙ pow-add 2 (6 * m) 6 ∙ ap (λ x. x * 64) (sixes m) ∙ sym (pow-suc 64 m)
 
--- With `left` of n bytes to come, those from here give the whole answer.
+-- Of n bytes, `left` are still to be written, and writing them from here gives the whole result.
 pub record Following (v n : ℕ) (p₀ : Pen) (s₀ : List ℕ) (left : ℕ) (p : Pen) (s : List ℕ) : Type 0 where
   pub few : left ≤ 6
   pub long : length s ≡ length s₀
@@ -39,7 +38,7 @@ module _ (v n : ℕ) (p₀ : Pen) (s₀ : List ℕ) where
   begin few = record { few = few; long = refl; same = refl }
 
   module _ {left : ℕ} {p : Pen} {s : List ℕ} (f : Following v n p₀ s₀ left p s) where
-    pub step : {q : Pen} {t : List ℕ} → 0 < left → _≡_ {A = State} (record { pen = q; bytes = t }) (inked (bitsOf 8 (0x80 + v / 2 ^ (6 * (left - 1)) % 64)) p s)
+    pub step : {q : Pen} {t : List ℕ} → 0 < left → Writes (bitsOf 8 (0x80 + v / 2 ^ (6 * (left - 1)) % 64)) p s q t
         → Following v n p₀ s₀ (left - 1) q t
     unfolding followers
     step l e =
@@ -53,6 +52,6 @@ module _ (v n : ℕ) (p₀ : Pen) (s₀ : List ℕ) where
               ∙ ap (λ k. inked (bitsOfBytes (followers k v)) p s) (let z : suc m ≡ left = omega arith in z) ∙ f .same;
         }
 
-    pub end : left ≤ 0 → _≡_ {A = State} (record { pen = p; bytes = s }) (inked (bitsOfBytes (followers n v)) p₀ s₀)
+    pub end : left ≤ 0 → Writes (bitsOfBytes (followers n v)) p₀ s₀ p s
     unfolding followers bitsOfBytes
     end l = sym (inked-nothing p s) ∙ ap (λ k. inked (bitsOfBytes (followers k v)) p s) (let z : 0 ≡ left = omega arith in z) ∙ f .same

@@ -1,4 +1,4 @@
--- What the writing of a frame's header comes to, where there is room and where there is none. Assumes nothing.
+-- The written header: the result where there is room for it, and where there is none. Assumes nothing.
 use Prim.Native.Nat.{ℕ, _*_, _/_, _≤_, _<_}
 use native.Mathlib.Omega.{arith}
 use mathlib.Core.Path.{_≡_, ap, sym, _∙_}
@@ -10,20 +10,21 @@ use Rattle.reading.specs.Spelling.{bitsOf}
 use Rattle.reading.proofs.Spelling.{Binary, number, both}
 use Rattle.rfc9639.specs.declared.FrameSetting.{FrameSetting}
 use Rattle.rfc9639.specs.CheckSums.{crc8}
-use Rattle.rfc9639.specs.Write.{sizeCode, fieldBits, headerBits}
+use Rattle.rfc9639.specs.HeaderCodes.{syncCode, sizeCode}
+use Rattle.rfc9639.specs.Write.{fieldBits, headerBits}
 use Rattle.rfc9639.proofs.Bound.{length-header, fields-whole}
 use Rattle.rfc9639.proofs.Whole.{bits-fields}
 use Rattle.output.specs.declared.Pen.{Pen}
-use Rattle.output.specs.Ink.{State, inked, fresh}
+use Rattle.output.specs.Ink.{State, inked, fresh, Writes}
 use Rattle.output.proofs.Inking.{inked-length, inked-whole, inked-before}
 use Rattle.output.proofs.Chaining.{first, inked-then}
 use Rattle.heading.specs.Heads.{headed}
-use Rattle.heading.specs.Private.{threeBits}
+use Rattle.heading.specs.Private.{syncToRateBits}
 
--- the first three bytes are bits
-pub three-binary : (set : FrameSetting) → Binary (threeBits set)
-unfolding threeBits
-three-binary set = both (both (both (number 15 0x7ffc) (number 1 (set .blocking))) (number 4 (sizeCode (set .size)))) (number 4 0)
+-- from the sync code to the rate there are only bits
+pub sync-to-rate-binary : (set : FrameSetting) → Binary (syncToRateBits set)
+unfolding syncToRateBits
+sync-to-rate-binary set = both (both (both (number 15 syncCode) (number 1 (set .blocking))) (number 4 (sizeCode (set .size)))) (number 4 0)
 
 -- the bytes of the fields
 abbrev fieldBytes : FrameSetting → ℕ
@@ -41,18 +42,18 @@ module _ (set : FrameSetting) where
 
     -- ---- the check sum
 
-    module _ {p : Pen} {t : List ℕ} (room : length (headerBits set) ≤ 8 * length s) (e : _≡_ {A = State} (record { pen = p; bytes = t }) (inked (fieldBits set) fresh s)) where
+    module _ {p : Pen} {t : List ℕ} (room : length (headerBits set) ≤ 8 * length s) (e : Writes (fieldBits set) fresh s p t) where
       few : fieldBytes set ≤ length s
       few = omega (arith, fields-whole set, length-header set)
 
-      -- the pen stands behind the fields
+      -- the pen stands right after the fields
       pub pen-within : p .byte ≤ length t
       pen-within =
           let at : p .byte ≡ fieldBytes set = ap (λ x. x .pen .byte) (e ∙ inked-whole (fieldBits set) s (fieldBytes set) (fields-whole set) few) in
           omega (arith, at, few, ap (λ x. length (x .bytes)) e, inked-length (fieldBits set) fresh s)
 
-      -- so their sum behind them makes the header
-      pub summed : {x : ℕ} {q : Pen} {u : List ℕ} → x ≡ crc8 (bitsOfBytes (take (p .byte) t)) → _≡_ {A = State} (record { pen = q; bytes = u }) (inked (bitsOf 8 x) p t)
+      -- so their check sum, written there, completes the header
+      pub summed : {x : ℕ} {q : Pen} {u : List ℕ} → x ≡ crc8 (bitsOfBytes (take (p .byte) t)) → Writes (bitsOf 8 x) p t q u
           → _≡_ {A = State} (record { pen = q; bytes = u }) (headed set s)
       unfolding headerBits
       summed h f =

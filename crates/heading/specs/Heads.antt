@@ -1,4 +1,4 @@
--- What writing a frame's header into some bytes comes to.
+-- The result of writing a frame's header into some bytes.
 use Prim.Native.Nat.{ℕ, _*_}
 use mathlib.Core.List.{List}
 use lib.Dec.{leb}
@@ -8,6 +8,6 @@ use Rattle.rfc9639.specs.declared.FrameSetting.{FrameSetting}
 use Rattle.rfc9639.specs.Write.{headerBits}
 use Rattle.output.specs.Ink.{State, inked, fresh}
 
--- The header, where there is room for it; else nothing.
+-- the header, if there is room for it; else nothing
 unfoldable pub headed : FrameSetting → List ℕ → State
 headed set s = if leb (length (headerBits set)) (8 * length s) then inked (headerBits set) fresh s else record { pen = fresh; bytes = s }

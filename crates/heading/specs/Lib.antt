@@ -1,3 +1,3 @@
--- What writing a header comes to.
+-- The result of writing a header.
 pub mod Heads
 pub mod Private

@@ -1,5 +1,4 @@
--- What a pen writes, for callers: one list of bits behind another, whole bytes from the start, and what stays.
--- Assumes nothing.
+-- Inked bits: one list after another, whole bytes from the start, and what stays unchanged. Assumes nothing.
 use Prim.Native.Nat.{ℕ, zero, suc, _+_, _*_, _^_, _≤_, _<_}
 use native.Mathlib.Nat.{add-zero, zero-add}
 use native.Mathlib.Numerals.{add-one}
@@ -15,9 +14,9 @@ use Rattle.reading.specs.Bytes.{bitsOfBytes}
 use Rattle.reading.specs.Spelling.{spelt, bytesOf}
 use Rattle.reading.proofs.Spelling.{Bits, length-bytesOf, bits-of-packed}
 use Rattle.output.specs.declared.Pen.{Pen}
-use Rattle.output.specs.Ink.{State, inkBit, ink, isPen, inked, fresh}
+use Rattle.output.specs.Ink.{State, inkBit, ink, isPen, inked, fresh, Writes}
 
--- ---- what is a pen
+-- ---- pens
 
 pub record Good (p : Pen) : Type 0 where
   pub few : p .held < 8
@@ -44,7 +43,7 @@ pub high-no-pen : (p : Pen) → p .held < 8 → 2 ^ p .held ≤ p .bits → isPe
 unfolding isPen
 high-no-pen p f h = rw (lt-ltb _ _ f) (le-ltb _ _ h)
 
--- ---- one bit: behind the end, in the byte begun, or its last
+-- ---- one bit: past the end, within the byte being filled, or its last
 
 module _ (b : ℕ) (p : Pen) (s : List ℕ) where
   bit-out : length s ≤ p .byte → inkBit b p s ≡ record { pen = p; bytes = s }
@@ -59,7 +58,7 @@ module _ (b : ℕ) (p : Pen) (s : List ℕ) where
   unfolding inkBit
   bit-full l h = rw (lt-ltb _ _ l, le-ltb _ _ h)
 
-  -- what holds of each holds of the bit
+  -- what holds in each of the three cases holds after the bit
   bit-any : (P : State → Type 0) → P (record { pen = p; bytes = s })
       → (p .held < 7 → P (record { pen = record { byte = p .byte; held = p .held + 1; bits = p .bits * 2 + b }; bytes = s }))
       → P (record { pen = record { byte = p .byte + 1; held = 0; bits = 0 }; bytes = set s (p .byte) (p .bits * 2 + b) })
@@ -97,23 +96,23 @@ unfolding ink
 ink-length [] p s = refl
 ink-length (b ∷ bs) p s = ink-length bs (inkBit b p s .pen) (inkBit b p s .bytes) ∙ bit-length b p s
 
--- bits behind a state
-abbrev on : List ℕ → State → State
-on bs x = ink bs (x .pen) (x .bytes)
+-- more bits after a state
+abbrev ink-after : List ℕ → State → State
+ink-after bs x = ink bs (x .pen) (x .bytes)
 
--- behind the end
+-- past the end
 pub ink-out : (bs : List ℕ) (p : Pen) (s : List ℕ) → length s ≤ p .byte → ink bs p s ≡ record { pen = p; bytes = s }
 unfolding ink
 ink-out [] p s l = refl
-ink-out (b ∷ bs) p s l = ap (on bs) (bit-out b p s l) ∙ ink-out bs p s l
+ink-out (b ∷ bs) p s l = ap (ink-after bs) (bit-out b p s l) ∙ ink-out bs p s l
 
--- in the byte begun
+-- within the byte being filled
 pub ink-few : (bs : List ℕ) (p : Pen) (s : List ℕ) → p .byte < length s → p .held + length bs < 8
     → ink bs p s ≡ record { pen = record { byte = p .byte; held = p .held + length bs; bits = spelt (p .bits) bs }; bytes = s }
 unfolding ink spelt
 ink-few [] p s l h = ap (λ (k : ℕ). record { pen = record { byte = p .byte; held = k; bits = p .bits }; bytes = s }) (sym (add-zero (p .held)))
 ink-few (b ∷ bs) p s l h =
-    ap (on bs) (bit-few b p s l (omega arith)) ∙ ink-few bs (record { byte = p .byte; held = p .held + 1; bits = p .bits * 2 + b }) s l (omega arith)
+    ap (ink-after bs) (bit-few b p s l (omega arith)) ∙ ink-few bs (record { byte = p .byte; held = p .held + 1; bits = p .bits * 2 + b }) s l (omega arith)
     ∙ ap (λ (k : ℕ). record { pen = record { byte = p .byte; held = k; bits = spelt (p .bits * 2 + b) bs }; bytes = s })
     (let e : p .held + 1 + length bs ≡ p .held + suc (length bs) = omega arith in e)
 
@@ -124,7 +123,7 @@ unfolding ink spelt
 ink-byte [] p s l n h = absurd (omega arith)
 ink-byte (b ∷ []) p s l n h = bit-full b p s l (omega arith)
 ink-byte (b ∷ c ∷ bs) p s l n h =
-    ap (on (c ∷ bs)) (bit-few b p s l (omega arith))
+    ap (ink-after (c ∷ bs)) (bit-few b p s l (omega arith))
     ∙ ink-byte (c ∷ bs) (record { byte = p .byte; held = p .held + 1; bits = p .bits * 2 + b }) s l (omega arith) (omega arith)
 
 -- whole bytes
@@ -138,7 +137,7 @@ ink-bytes (suc m) bs k s e l =
     let n : length (take 8 bs) ≡ 8 = length-take-le 8 bs (omega arith) in
     let t : List ℕ = set s k (spelt 0 (take 8 bs)) in
     ap (λ x. ink x p s) (sym (take-append-drop 8 bs)) ∙ ink-append (take 8 bs) (drop 8 bs) p s
-    ∙ ap (on (drop 8 bs)) (ink-byte (take 8 bs) p s (omega arith) (omega arith) (omega arith))
+    ∙ ap (ink-after (drop 8 bs)) (ink-byte (take 8 bs) p s (omega arith) (omega arith) (omega arith))
     ∙ ap (λ (i : ℕ). ink (drop 8 bs) (record { byte = i; held = 0; bits = 0 }) t) (add-one k)
     ∙ ink-bytes m (drop 8 bs) (suc k) t (omega (arith, length-drop 8 bs)) (omega (arith, length-set s k (spelt 0 (take 8 bs))))
     ∙ ap (λ (i : ℕ). record { pen = record { byte = i; held = 0; bits = 0 }; bytes = sets t (suc k) (bytesOf m (drop 8 bs)) })
@@ -154,7 +153,7 @@ pub inked-none : (bs : List ℕ) (p : Pen) (s : List ℕ) → isPen p ≡ false 
 unfolding inked
 inked-none bs p s e = rw e
 
-pub inked-good : (bs : List ℕ) (p : Pen) (s : List ℕ) {q : Pen} {t : List ℕ} → Bits bs → Good p → _≡_ {A = State} (record { pen = q; bytes = t }) (inked bs p s) → Good q
+pub inked-good : (bs : List ℕ) (p : Pen) (s : List ℕ) {q : Pen} {t : List ℕ} → Bits bs → Good p → Writes bs p s q t → Good q
 inked-good bs p s h g e = subst Good (sym (ap (λ (x : State). x .pen) (e ∙ inked-is bs p s g))) (ink-good bs p s h g)
 
 pub inked-nothing : (p : Pen) (s : List ℕ) → inked [] p s ≡ record { pen = p; bytes = s }
@@ -173,9 +172,9 @@ inked-length bs p s = go (isPen p)
     go true = ink-length bs p s
     go false = refl
 
--- bits behind a state, with the test
-abbrev more : List ℕ → State → State
-more bs x = inked bs (x .pen) (x .bytes)
+-- more bits after a state, with the test of the pen
+abbrev inked-after : List ℕ → State → State
+inked-after bs x = inked bs (x .pen) (x .bytes)
 
 pub inked-append : (xs bs : List ℕ) (p : Pen) (s : List ℕ) → Bits xs → inked (xs ++ bs) p s ≡ inked bs (inked xs p s .pen) (inked xs p s .bytes)
 inked-append xs bs p s h = go (isPen p) refl
@@ -184,8 +183,8 @@ inked-append xs bs p s h = go (isPen p) refl
     go true e =
         let g : Good p = pen-good p e in
         inked-is (xs ++ bs) p s g ∙ ink-append xs bs p s ∙ sym (inked-is bs (ink xs p s .pen) (ink xs p s .bytes) (ink-good xs p s h g))
-        ∙ ap (more bs) (sym (inked-is xs p s g))
-    go false e = inked-none (xs ++ bs) p s e ∙ sym (inked-none bs p s e) ∙ ap (more bs) (sym (inked-none xs p s e))
+        ∙ ap (inked-after bs) (sym (inked-is xs p s g))
+    go false e = inked-none (xs ++ bs) p s e ∙ sym (inked-none bs p s e) ∙ ap (inked-after bs) (sym (inked-none xs p s e))
 
 -- ---- from the start
 
@@ -201,9 +200,9 @@ inked-whole bs s m e l =
     ∙ ap₂ (λ (i : ℕ) (t : List ℕ). record { pen = record { byte = i; held = 0; bits = 0 }; bytes = t }) (zero-add m)
     (sets-eq (bytesOf m bs) s 0 (omega (arith, length-bytesOf m bs)) ∙ ap (λ (i : ℕ). bytesOf m bs ++ drop i s) (zero-add (length (bytesOf m bs)) ∙ length-bytesOf m bs))
 
--- the bytes before the pen then have just these bits
+-- the bytes before the pen then hold exactly these bits
 pub inked-before : (bs s : List ℕ) (m : ℕ) → Bits bs → length bs ≡ 8 * m → m ≤ length s → {p : Pen} {t : List ℕ}
-    → _≡_ {A = State} (record { pen = p; bytes = t }) (inked bs fresh s) → bitsOfBytes (take (p .byte) t) ≡ bs
+    → Writes bs fresh s p t → bitsOfBytes (take (p .byte) t) ≡ bs
 inked-before bs s m b e l w =
     ap (λ (x : State). bitsOfBytes (take (x .pen .byte) (x .bytes))) (w ∙ inked-whole bs s m e l)
     ∙ ap bitsOfBytes (take-at (bytesOf m bs) (drop m s) m (length-bytesOf m bs)) ∙ bits-of-packed m bs b e
@@ -214,6 +213,6 @@ pub inked-part : (bs cs s : List ℕ) (m : ℕ) → length bs ≡ 8 * m → leng
 unfolding fresh
 inked-part bs cs s m e h l =
     let t : List ℕ = bytesOf m bs ++ drop m s in
-    inked-is (bs ++ cs) fresh s fresh-good ∙ ink-append bs cs fresh s ∙ ap (on cs) (sym (inked-is bs fresh s fresh-good) ∙ inked-whole bs s m e (omega arith))
+    inked-is (bs ++ cs) fresh s fresh-good ∙ ink-append bs cs fresh s ∙ ap (ink-after cs) (sym (inked-is bs fresh s fresh-good) ∙ inked-whole bs s m e (omega arith))
     ∙ ink-few cs (record { byte = m; held = 0; bits = 0 }) t (rw length-append (omega (arith, length-bytesOf m bs, length-drop m s))) (omega arith)
     ∙ ap (λ (k : ℕ). record { pen = record { byte = m; held = k; bits = spelt 0 cs }; bytes = t }) (zero-add (length cs))

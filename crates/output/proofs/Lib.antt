@@ -1,4 +1,4 @@
--- Laws of the pen, for its functions and for their callers.
+-- Laws of the pen, for its functions and for their callers; one outcome for each function.
 pub mod Inking
 pub mod Chaining
 pub mod Rows

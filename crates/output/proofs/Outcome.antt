@@ -1,5 +1,4 @@
--- The contracts settle the outcome: any two pens, with the bytes that they left, that meet one are equal.
--- Assumes nothing.
+-- Any two outcomes that meet a public function's contract are equal. Assumes nothing.
 use Prim.Native.Nat.{ℕ}
 use mathlib.Core.Path.{_≡_, ap}
 use mathlib.Core.List.{List}
@@ -9,7 +8,7 @@ use Rattle.output.specs.Ink.{State}
 use Rattle.output.proofs.write_bits
 use Rattle.output.proofs.write_unary
 
--- for callers that write, too
+-- for callers that write as well
 pub state-one : {p p′ : Pen} {s s′ : List ℕ} {x : State} → _≡_ {A = State} (record { pen = p; bytes = s }) x
     → _≡_ {A = State} (record { pen = p′; bytes = s′ }) x → (p ≡ p′) × (s ≡ s′)
 state-one e f = (ap (λ y. y .pen) (one e f), ap (λ y. y .bytes) (one e f))

@@ -1,5 +1,4 @@
--- The loops that write some things in a row, a turn for each: what is still to be written gives the whole answer.
--- Assumes nothing.
+-- Loops that write a row, one element in each turn: the invariant is what is still to be written. Assumes nothing.
 use Prim.Native.Nat.{ℕ, suc, _+_, _≤_, _<_}
 use native.Mathlib.Numerals.{add-one}
 use mathlib.Core.Path.{_≡_, refl, ap, sym, _∙_}
@@ -9,10 +8,10 @@ use lib.Seq.{drop-cons}
 use Rattle.reading.specs.Spelling.{row}
 use Rattle.reading.proofs.Spelling.{Binary}
 use Rattle.output.specs.declared.Pen.{Pen}
-use Rattle.output.specs.Ink.{State, inked}
+use Rattle.output.specs.Ink.{State, inked, Writes}
 use Rattle.output.proofs.Inking.{inked-nothing, inked-append, inked-length}
 
--- of ys, those from i on are still to be written
+-- The elements of ys from i on are still to be written, and writing them from here gives the whole result.
 pub record Unwritten {A : Type 0} (f : A → List ℕ) (ys : List A) (p₀ : Pen) (s₀ : List ℕ) (i : ℕ) (p : Pen) (s : List ℕ) : Type 0 where
   pub same : inked (row f ys) p₀ s₀ ≡ inked (row f (drop i ys)) p s
   pub long : length s ≡ length s₀
@@ -22,9 +21,9 @@ module _ {A : Type 0} {f : A → List ℕ} {ys : List A} where
   begin p s = record { same = refl; long = refl }
 
   module _ {p₀ : Pen} {s₀ : List ℕ} {i : ℕ} {p : Pen} {s : List ℕ} (inv : Unwritten f ys p₀ s₀ i p s) where
-    -- the next of them
+    -- one more of them
     pub step : (d : A) {y : A} → i < length ys → y ≡ getD ys i d → Binary (f y) → {q : Pen} {t : List ℕ}
-        → _≡_ {A = State} (record { pen = q; bytes = t }) (inked (f y) p s) → Unwritten f ys p₀ s₀ (i + 1) q t
+        → Writes (f y) p s q t → Unwritten f ys p₀ s₀ (i + 1) q t
     unfolding row
     step d {y} h g b {q} {t} e = record {
       same =
@@ -35,6 +34,6 @@ module _ {A : Type 0} {f : A → List ℕ} {ys : List A} where
       long = ap (λ (x : State). length (x .bytes)) e ∙ inked-length (f y) p s ∙ inv .long;
     }
 
-    pub end : length ys ≤ i → _≡_ {A = State} (record { pen = p; bytes = s }) (inked (row f ys) p₀ s₀)
+    pub end : length ys ≤ i → Writes (row f ys) p₀ s₀ p s
     unfolding row
     end h = sym (inv .same ∙ ap (λ (l : List A). inked (row f l) p s) (drop-of-length-le ys h) ∙ inked-nothing p s)

@@ -1,4 +1,4 @@
--- The functions that write: some bits into the byte begun, and the loop over what is left. Assumes nothing.
+-- Loops that write bits: a turn of each, and the invariant, which is what is still to be written. Assumes nothing.
 use Prim.Native.Nat.{ℕ, _+_, _*_, _-_, _/_, _%_, _^_, _≤_, _<_}
 use native.Mathlib.Nat.{lt-of-lt-of-le, mod-eq-of-lt}
 use native.Mathlib.Numerals.{add-one}
@@ -12,10 +12,10 @@ use lib.Pow.{pow-mono, pow-add, shl-exact}
 use Rattle.reading.specs.Spelling.{bitsOf, unary, spelt}
 use Rattle.reading.proofs.Spelling.{Bits, bits-bitsOf, length-bitsOf, spelt-bitsOf, bitsOf-split, bitsOf-mod, unary-bits, unary-more}
 use Rattle.output.specs.declared.Pen.{Pen}
-use Rattle.output.specs.Ink.{State, ink, inked, isPen}
+use Rattle.output.specs.Ink.{State, ink, inked, isPen, Writes}
 use Rattle.output.proofs.Inking.{Good, pen-good, ink-append, ink-good, ink-length, ink-out, ink-few, ink-byte, inked-is}
 
--- ---- m bits more in the byte begun
+-- ---- m more bits in the byte being filled
 
 module _ (p : Pen) (m x : ℕ) (low : p .bits < 2 ^ p .held) (room : p .held + m ≤ 8) (fits : x < 2 ^ m) where
   -- no bit is shifted out of the word
@@ -41,51 +41,52 @@ module _ (p : Pen) (m x : ℕ) (low : p .bits < 2 ^ p .held) (room : p .held + m
         ap (λ (y : ℕ). record { pen = record { byte = p .byte + 1; held = 0; bits = 0 }; bytes = set s (p .byte) y }) joined-spelt
         ∙ sym (ink-byte (bitsOf m x) p s l (rw length-bitsOf n) (omega (arith, length-bitsOf m x)))
 
--- ---- bits, of which the last ones, `rest`, are still to be written
-pub record Unwritten (all : List ℕ) (p₀ : Pen) (s₀ rest : List ℕ) (p : Pen) (s : List ℕ) : Type 0 where
+-- ---- bits of which the last ones, `rest`, are still to be written: inking them from here gives the whole result
+
+pub record BitsLeft (all : List ℕ) (p₀ : Pen) (s₀ rest : List ℕ) (p : Pen) (s : List ℕ) : Type 0 where
   pub good : Good p
   pub long : length s ≡ length s₀
   pub same : inked all p₀ s₀ ≡ ink rest p s
 
-pub begin : (all : List ℕ) (p : Pen) (s : List ℕ) → isPen p ≡ true → Unwritten all p s all p s
+pub begin : (all : List ℕ) (p : Pen) (s : List ℕ) → isPen p ≡ true → BitsLeft all p s all p s
 begin all p s e = let g = pen-good p e in record { good = g; long = refl; same = inked-is all p s g }
 
-module _ (all : List ℕ) (p₀ : Pen) (s₀ rest : List ℕ) (p : Pen) (s : List ℕ) (inv : Unwritten all p₀ s₀ rest p s) where
-  pub out : length s ≤ p .byte → _≡_ {A = State} (record { pen = p; bytes = s }) (inked all p₀ s₀)
+module _ (all : List ℕ) (p₀ : Pen) (s₀ rest : List ℕ) (p : Pen) (s : List ℕ) (inv : BitsLeft all p₀ s₀ rest p s) where
+  pub out : length s ≤ p .byte → Writes all p₀ s₀ p s
   out l = sym (inv .same ∙ ink-out rest p s l)
 
   step : (bs cs : List ℕ) {q : Pen} {t : List ℕ} → Bits bs → rest ≡ bs ++ cs → _≡_ {A = State} (record { pen = q; bytes = t }) (ink bs p s)
-      → Unwritten all p₀ s₀ cs q t
+      → BitsLeft all p₀ s₀ cs q t
   step bs cs h f e = record {
     good = rw (ap (λ y. y .pen) e) (ink-good bs p s h (inv .good));
     long = ap (λ y. length (y .bytes)) e ∙ ink-length bs p s ∙ inv .long;
     same = inv .same ∙ ap (λ y. ink y p s) f ∙ ink-append bs cs p s ∙ ap (λ y. ink cs (y .pen) (y .bytes)) (sym e);
   }
 
--- of a number, the m highest bits of those left
-module _ (n v : ℕ) (p₀ : Pen) (s₀ : List ℕ) (left : ℕ) (p : Pen) (s : List ℕ) (inv : Unwritten (bitsOf n v) p₀ s₀ (bitsOf left v) p s) where
+-- of a number, the m highest of the bits that are left
+module _ (n v : ℕ) (p₀ : Pen) (s₀ : List ℕ) (left : ℕ) (p : Pen) (s : List ℕ) (inv : BitsLeft (bitsOf n v) p₀ s₀ (bitsOf left v) p s) where
   pub step-bits : (m : ℕ) {x : ℕ} {q : Pen} {t : List ℕ} → m ≤ left → x ≡ v / 2 ^ (left - m) % 2 ^ m
-      → _≡_ {A = State} (record { pen = q; bytes = t }) (ink (bitsOf m x) p s) → Unwritten (bitsOf n v) p₀ s₀ (bitsOf (left - m) v) q t
+      → _≡_ {A = State} (record { pen = q; bytes = t }) (ink (bitsOf m x) p s) → BitsLeft (bitsOf n v) p₀ s₀ (bitsOf (left - m) v) q t
   step-bits m {x} h ex e =
       step _ _ _ _ _ _ inv (bitsOf m x) (bitsOf (left - m) v) (bits-bitsOf m x)
       (ap (λ k. bitsOf k v) (let f : left ≡ m + (left - m) = omega arith in f) ∙ bitsOf-split m (left - m) v
       ∙ ap (λ y. y ++ bitsOf (left - m) v) (sym (bitsOf-mod m (v / 2 ^ (left - m))) ∙ ap (bitsOf m) (sym ex)))
       e
 
-  pub end-bits : left ≤ 0 → _≡_ {A = State} (record { pen = p; bytes = s }) (inked (bitsOf n v) p₀ s₀)
+  pub end-bits : left ≤ 0 → Writes (bitsOf n v) p₀ s₀ p s
   unfolding bitsOf ink
   end-bits h = sym (inv .same ∙ ap (λ k. ink (bitsOf k v) p s) (let e : left ≡ 0 = omega arith in e))
 
--- of zeros and a one, 32 zeros; then all
-module _ (z : ℕ) (p₀ : Pen) (s₀ : List ℕ) (left : ℕ) (p : Pen) (s : List ℕ) (inv : Unwritten (unary z) p₀ s₀ (unary left) p s) where
-  pub step-zeros : {q : Pen} {t : List ℕ} → 32 ≤ left → _≡_ {A = State} (record { pen = q; bytes = t }) (inked (bitsOf 32 0) p s)
-      → Unwritten (unary z) p₀ s₀ (unary (left - 32)) q t
+-- of some zeros and a one, 32 zeros; then the rest
+module _ (z : ℕ) (p₀ : Pen) (s₀ : List ℕ) (left : ℕ) (p : Pen) (s : List ℕ) (inv : BitsLeft (unary z) p₀ s₀ (unary left) p s) where
+  pub step-zeros : {q : Pen} {t : List ℕ} → 32 ≤ left → Writes (bitsOf 32 0) p s q t
+      → BitsLeft (unary z) p₀ s₀ (unary (left - 32)) q t
   step-zeros h e =
       step _ _ _ _ _ _ inv (bitsOf 32 0) (unary (left - 32)) (bits-bitsOf 32 0)
       (ap unary (let f : left ≡ 32 + (left - 32) = omega arith in f) ∙ unary-more 32 (left - 32))
       (e ∙ inked-is (bitsOf 32 0) p s (inv .good))
 
-  pub end-zeros : {q : Pen} {t : List ℕ} → _≡_ {A = State} (record { pen = q; bytes = t }) (inked (bitsOf (left + 1) 1) p s)
-      → _≡_ {A = State} (record { pen = q; bytes = t }) (inked (unary z) p₀ s₀)
+  pub end-zeros : {q : Pen} {t : List ℕ} → Writes (bitsOf (left + 1) 1) p s q t
+      → Writes (unary z) p₀ s₀ q t
   end-zeros e =
       e ∙ inked-is (bitsOf (left + 1) 1) p s (inv .good) ∙ ap (λ y. ink y p s) (ap (λ k. bitsOf k 1) (add-one left) ∙ unary-bits left) ∙ sym (inv .same)

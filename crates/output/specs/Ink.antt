@@ -1,4 +1,4 @@
--- What a pen writes into some bytes, bit by bit. Where the bytes end, it stops: what is left falls off.
+-- What a pen writes into some bytes, bit by bit. Where the bytes end, it stops: the bits that are left are dropped.
 use Prim.Native.Nat.{ℕ, _+_, _*_, _^_}
 use mathlib.Core.Path.{_≡_}
 use mathlib.Core.Bool.{Bool, _&&_}
@@ -13,7 +13,7 @@ pub record State : Type 0 where
   pub pen : Pen
   pub bytes : List ℕ
 
--- A bit more: the eighth of a byte writes it.
+-- One more bit: the eighth of a byte writes the byte.
 unfoldable pub inkBit : ℕ → Pen → List ℕ → State
 inkBit b p s =
     if ltb (p .byte) (length s)
@@ -26,18 +26,18 @@ unfoldable pub ink : List ℕ → Pen → List ℕ → State
 ink [] p s = record { pen = p; bytes = s }
 ink (b ∷ bs) p s = ink bs (inkBit b p s .pen) (inkBit b p s .bytes)
 
--- it holds at most seven bits, and those that it says
+-- it holds at most seven bits, and no others
 unfoldable pub isPen : Pen → Bool
 isPen p = ltb (p .held) 8 && ltb (p .bits) (2 ^ p .held)
 
--- What is no pen writes nothing.
+-- What is not a pen writes nothing.
 unfoldable pub inked : List ℕ → Pen → List ℕ → State
 inked bs p s = if isPen p then ink bs p s else record { pen = p; bytes = s }
 
--- at the start of the bytes
+-- a pen at the start of the bytes
 unfoldable pub fresh : Pen
 fresh = record { byte = 0; held = 0; bits = 0 }
 
--- Where the pen stands after some bits, and what the bytes are then: what each function that writes promises.
+-- What each function that writes promises: where the pen stands after some bits, and what the bytes are then.
 abbrev pub Writes : List ℕ → Pen → List ℕ → Pen → List ℕ → Type 0
 Writes bs p s after left = _≡_ {A = State} (record { pen = after; bytes = left }) (inked bs p s)

@@ -1,2 +1,2 @@
--- What a pen does.
+-- What a pen writes.
 pub mod Ink

@@ -9,7 +9,7 @@ use lib.IntN.{ℤ}
 use lib.ListN.{length, take, drop}
 use lib.Seq.{take-append-seam}
 use Rattle.rfc9639.specs.declared.FrameSetting.{FrameSetting}
-use Rattle.rfc9639.specs.Header.{assignment, channelCount}
+use Rattle.rfc9639.specs.HeaderCodes.{assignment, channelCount}
 use Rattle.rfc9639.specs.Read.{Outcome, read}
 use Rattle.rfc9639.specs.Write.{frameBytes, frameBound, allowed, allFit, Written, unwritten, write}
 use Rattle.rfc9639.proofs.Bound.{within-bound}

@@ -14,7 +14,8 @@ use Rattle.reading.proofs.Spelling.{bitsOf-zero}
 use Rattle.rfc9639.specs.declared.FrameSetting.{FrameSetting}
 use Rattle.rfc9639.specs.declared.Lane.{Lane}
 use Rattle.rfc9639.specs.CheckSums.{crc16}
-use Rattle.rfc9639.specs.Header.{assignment, sampleCount}
+use Rattle.rfc9639.specs.HeaderCodes.{assignment}
+use Rattle.rfc9639.specs.Header.{sampleCount}
 use Rattle.rfc9639.specs.Subframe.{subframe}
 use Rattle.rfc9639.specs.Frame.{opening, widths, padding, footer, body, frame}
 use Rattle.rfc9639.specs.Write.{headerBits, lanes, laneWidth, stored, laneBits, subframesBits, padded, footed, frameBits}

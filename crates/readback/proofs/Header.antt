@@ -14,8 +14,9 @@ use Rattle.rfc9639.specs.declared.Codes.{Codes}
 use Rattle.rfc9639.specs.declared.FrameHeader.{FrameHeader}
 use Rattle.rfc9639.specs.declared.FrameSetting.{FrameSetting}
 use Rattle.rfc9639.specs.CheckSums.{crc8}
-use Rattle.rfc9639.specs.Header.{assignment, blockSize, rateBits, timeOf, sync, sizeAndRate, depthAndZero, channelsAndBits, codes, blockTime, headerSum, headerBehind, header}
-use Rattle.rfc9639.specs.Write.{sizeCode, sizeBits, bitsCode, numberBytes, codeBits, fieldBits, headerBits, numberLimit}
+use Rattle.rfc9639.specs.HeaderCodes.{assignment, blockSize, rateBits, sizeCode, sizeBits, bitsCode}
+use Rattle.rfc9639.specs.Header.{timeOf, sync, sizeAndRate, depthAndZero, channelsAndBits, codes, blockTime, headerSum, headerBehind, header}
+use Rattle.rfc9639.specs.Write.{numberBytes, codeBits, fieldBits, headerBits, numberLimit}
 use Rattle.rfc9639.proofs.CheckSums.{crc8-below}
 use Rattle.reading.proofs.Tests.{by-test}
 use Rattle.readback.proofs.Spells.{Spells, spells-as, spells-value, spells-by, spells-bits, spells-passed, spells-done, spells-bind, spells-then, spells-last, spells-checked, spells-require}

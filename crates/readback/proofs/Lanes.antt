@@ -13,7 +13,7 @@ use Rattle.rfc9639.specs.declared.ChannelAssignment.{ChannelAssignment}
 use Rattle.rfc9639.specs.declared.ChannelAssignment.the-variants.{Independent, LeftSide, SideRight, MidSide}
 use Rattle.rfc9639.specs.declared.Lane.{Lane}
 use Rattle.rfc9639.specs.declared.Lane.the-variants.{Channel, Mid, Side}
-use Rattle.rfc9639.specs.Header.{channelCount}
+use Rattle.rfc9639.specs.HeaderCodes.{channelCount}
 use Rattle.rfc9639.specs.Stereo.{joined}
 use Rattle.rfc9639.specs.Coding.{counting}
 use Rattle.rfc9639.specs.Write.{laneOf, lanes, laneWidth, midOf, sideOf, channel, stored}

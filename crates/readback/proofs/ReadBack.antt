@@ -16,7 +16,8 @@ use Rattle.reading.proofs.Prefixes.{bits-append}
 use Rattle.rfc9639.specs.declared.FrameSetting.{FrameSetting}
 use Rattle.rfc9639.specs.declared.BlockTime.the-variants.{FrameNumber, SampleNumber}
 use Rattle.rfc9639.specs.declared.FrameHeader.{FrameHeader}
-use Rattle.rfc9639.specs.Header.{assignment, channelCount, timeOf, firstSample}
+use Rattle.rfc9639.specs.HeaderCodes.{assignment, channelCount}
+use Rattle.rfc9639.specs.Header.{timeOf, firstSample}
 use Rattle.rfc9639.specs.Frame.{Frame, frame}
 use Rattle.rfc9639.specs.Read.{Report, accepted, read}
 use Rattle.rfc9639.specs.Write.{frameBits, frameBytes, allowed, allFit}

@@ -8,8 +8,8 @@ use lib.Dec.{leb, ltb, eqb}
 use Rattle.reading.specs.Reading.{done}
 use Rattle.reading.proofs.Running.{and-fst, and-snd}
 use Rattle.rfc9639.specs.declared.FrameSetting.{FrameSetting}
-use Rattle.rfc9639.specs.Header.{assignment, channelCount, bitDepth}
-use Rattle.rfc9639.specs.Write.{bitsCode, writable, numberLimit, allowed}
+use Rattle.rfc9639.specs.HeaderCodes.{assignment, channelCount, bitDepth, bitsCode}
+use Rattle.rfc9639.specs.Write.{writable, numberLimit, allowed}
 
 -- a bit depth that the writer writes, and its code
 pub record Depth (b : ℕ) : Type 0 where

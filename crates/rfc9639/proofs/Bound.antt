@@ -15,10 +15,10 @@ use Rattle.reading.proofs.Spelling.{length-bitsOf, length-packed}
 use Rattle.rfc9639.specs.declared.FrameSetting.{FrameSetting}
 use Rattle.rfc9639.specs.declared.Lane.{Lane}
 use Rattle.rfc9639.specs.CheckSums.{crc8, crc16}
-use Rattle.rfc9639.specs.Header.{assignment}
+use Rattle.rfc9639.specs.HeaderCodes.{assignment, sizeCode, sizeBits}
 use Rattle.rfc9639.specs.Frame.{padding}
 use Rattle.rfc9639.specs.Coding.{cost, subframeBits}
-use Rattle.rfc9639.specs.Write.{sizeCode, sizeBits, followers, numberBytes, codeBits, fieldBits, headerBits, lanes, laneWidth, stored, laneBits, subframesBits, padded, footed, frameBits, frameBytes, mostBits, frameBound}
+use Rattle.rfc9639.specs.Write.{followers, numberBytes, codeBits, fieldBits, headerBits, lanes, laneWidth, stored, laneBits, subframesBits, padded, footed, frameBits, frameBytes, mostBits, frameBound}
 use Rattle.rfc9639.proofs.Choosing.{chosen-at-most-verbatim}
 use Rattle.rfc9639.proofs.Lengths.{stored-at-most}
 use Rattle.rfc9639.proofs.Costs.{cost-verbatim}

@@ -8,7 +8,8 @@ use Rattle.reading.specs.Places.{runAt, inside, toAt}
 use Rattle.rfc9639.specs.CheckSums.{crcBit, crcBits, crc8, crc16}
 use Rattle.rfc9639.specs.Integers.{signed, low, wrapped, shiftDown, shiftUp, sample}
 use Rattle.rfc9639.specs.Number.{followed, numberFrom, codedNumber}
-use Rattle.rfc9639.specs.Header.{assignment, bitDepth, blockSize, rateBits, timeOf, sync, sizeAndRate, depthAndZero, channelsAndBits, codes, blockTime, headerSum, headerBehind, header, channelCount, sampleCount, firstSample}
+use Rattle.rfc9639.specs.HeaderCodes.{assignment, bitDepth, blockSize, rateBits, channelCount, sizeCode, sizeBits, bitsCode}
+use Rattle.rfc9639.specs.Header.{timeOf, sync, sizeAndRate, depthAndZero, channelsAndBits, codes, blockTime, headerSum, headerBehind, header, sampleCount, firstSample}
 use Rattle.rfc9639.specs.Residual.{unfolded, folded, rice, coded, partition, partitionSizes, residual}
 use Rattle.rfc9639.specs.Prediction.{dot, predicted, restored, predict, fixedCoefficients}
 use Rattle.rfc9639.specs.Subframe.{subframeType, wastedBits, wastedJudged, kindAndWasted, subframeHeader, orderOf, fixed, quantization, lpcBehind, lpc, samples, subframeBehind, subframe}
@@ -17,7 +18,7 @@ use Rattle.rfc9639.specs.Frame.{opening, widths, padding, footer, body, 
 use Rattle.reading.specs.Spelling.{bitsOf, unary, row, spelt, bytesOf, packed}
 use Rattle.rfc9639.specs.declared.FrameSetting.{FrameSetting}
 use Rattle.rfc9639.specs.Coding.{fold, riceBits, residualBits, residuals, fixedResiduals, plain, subframeHead, codedAs, same, uniform, counting, fixedOnes, candidates, fewestOf, fewest, cost, chosen, subframeBits}
-use Rattle.rfc9639.specs.Write.{Written, sizeCode, sizeBits, bitsCode, followers, numberBytes, codeBits, fieldBits, headerBits, laneOf, lanes, laneWidth, midOf, sideOf, channel, stored, laneBits, subframesBits, padded, footed, frameBits, frameBytes, mostBits, frameBound, writable, numberLimit, allowed, fits, allFit, unwritten, write}
+use Rattle.rfc9639.specs.Write.{Written, followers, numberBytes, codeBits, fieldBits, headerBits, laneOf, lanes, laneWidth, midOf, sideOf, channel, stored, laneBits, subframesBits, padded, footed, frameBits, frameBytes, mostBits, frameBound, writable, numberLimit, allowed, fits, allFit, unwritten, write}
 use Rattle.rfc9639.specs.Read.{Outcome, refusal, accepted, untouched, zeroed, cutShort, begun, finished, resultOf, result, read}
 
 -- the n bytes of a number, highest first, as a hex dump shows them

@@ -15,7 +15,7 @@ use Rattle.rfc9639.specs.declared.ChannelAssignment.{ChannelAssignment}
 use Rattle.rfc9639.specs.declared.ChannelAssignment.the-variants.{Independent, LeftSide, SideRight, MidSide}
 use Rattle.rfc9639.specs.declared.Lane.{Lane}
 use Rattle.rfc9639.specs.declared.Lane.the-variants.{Channel, Mid, Side}
-use Rattle.rfc9639.specs.Header.{assignment, channelCount}
+use Rattle.rfc9639.specs.HeaderCodes.{assignment, channelCount}
 use Rattle.rfc9639.specs.Stereo.{pairwise}
 use Rattle.rfc9639.specs.Frame.{widths}
 use Rattle.rfc9639.specs.Coding.{counting}

@@ -18,9 +18,9 @@ use Rattle.rfc9639.specs.declared.Lane.{Lane}
 use Rattle.rfc9639.specs.CheckSums.{crc8, crc16}
 use Rattle.rfc9639.specs.Integers.{low}
 use Rattle.rfc9639.specs.Frame.{padding}
-use Rattle.rfc9639.specs.Header.{assignment}
+use Rattle.rfc9639.specs.HeaderCodes.{assignment, sizeCode, sizeBits, bitsCode}
 use Rattle.rfc9639.specs.Coding.{fold, riceBits, residualBits, fixedResiduals, plain, subframeHead, codedAs, chosen, subframeBits}
-use Rattle.rfc9639.specs.Write.{sizeCode, sizeBits, bitsCode, numberBytes, codeBits, fieldBits, headerBits, lanes, laneWidth, stored, laneBits, subframesBits, padded, footed, frameBits, frameBytes}
+use Rattle.rfc9639.specs.Write.{numberBytes, codeBits, fieldBits, headerBits, lanes, laneWidth, stored, laneBits, subframesBits, padded, footed, frameBits, frameBytes}
 use Rattle.rfc9639.proofs.Bound.{length-padded}
 
 -- ---- the header

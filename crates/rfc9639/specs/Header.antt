@@ -1,68 +1,30 @@
--- The frame header (RFC 9639 section 9.1), with its checks in the order of the fields, each as soon as its field is
--- there. A refusal's number is document 01's.
-use Prim.Native.Nat.{ℕ, _+_, _*_, _/_, _%_, _^_}
+-- The frame header (RFC 9639 section 9.1). The fields are checked in their order, each as soon as it is read.
+-- A refusal's number is document 01's.
+use Prim.Native.Nat.{ℕ, _*_, _/_, _%_}
 use mathlib.Core.Bool.{_||_}
 use lib.Dec.{leb, ltb, eqb}
-use Rattle.reading.specs.Reading.{Ask, done, stop, _>>=_, _>>_, bits, passed, require, if_then_else_}
+use Rattle.reading.specs.Reading.{Ask, done, _>>=_, _>>_, bits, passed, require, if_then_else_}
 use Rattle.rfc9639.specs.declared.BlockTime.{BlockTime}
 use Rattle.rfc9639.specs.declared.BlockTime.the-variants.{FrameNumber, SampleNumber}
 use Rattle.rfc9639.specs.declared.ChannelAssignment.{ChannelAssignment}
-use Rattle.rfc9639.specs.declared.ChannelAssignment.the-variants.{Independent, LeftSide, SideRight, MidSide}
 use Rattle.rfc9639.specs.declared.Codes.{Codes}
 use Rattle.rfc9639.specs.declared.FrameHeader.{FrameHeader}
 use Rattle.rfc9639.specs.CheckSums.{crc8}
+use Rattle.rfc9639.specs.HeaderCodes.{syncCode, largestFrameNumber, blockSize, rateBits, assignment, channelCount, bitDepth}
 use Rattle.rfc9639.specs.Number.{codedNumber}
-
--- Section 9.1.3. Codes 11 to 15 are refused before.
-unfoldable pub assignment : ℕ → ChannelAssignment
-assignment code =
-    if ltb code 8 then Independent (code + 1)
-    else if eqb code 8 then LeftSide
-    else if eqb code 9 then SideRight
-    else MidSide
-
--- Section 9.1.4. Code 0 leaves the bits to the stream; 3 is reserved; 32 bits, code 7, are not done.
-unfoldable pub bitDepth : ℕ → Ask ℕ
-bitDepth code =
-    if eqb code 0 then done 0
-    else if eqb code 1 then done 8
-    else if eqb code 2 then done 12
-    else if eqb code 3 then stop 4
-    else if eqb code 4 then done 16
-    else if eqb code 5 then done 20
-    else if eqb code 6 then done 24
-    else stop 8
-
--- Section 9.1.1 and, for the codes 6 and 7 whose size comes behind the number, 9.1.6. Code 0 is refused before. Of the
--- 16-bit form the value 65535 is reserved.
-unfoldable pub blockSize : ℕ → Ask ℕ
-blockSize code =
-    if eqb code 1 then done 192
-    else if leb code 5 then done (144 * 2 ^ code)
-    else if eqb code 6 then (do v ← bits 8; done (v + 1))
-    else if eqb code 7 then (do v ← bits 16; require (ltb v 65535) 4; done (v + 1))
-    else done (2 ^ code)
-
--- Section 9.1.7: how many bits of a sample rate come behind the number. The rate itself sways no sample.
-unfoldable pub rateBits : ℕ → ℕ
-rateBits code =
-    if eqb code 12 then 8
-    else if eqb code 13 then 16
-    else if eqb code 14 then 16
-    else 0
 
 -- a frame's number where the blocking bit is 0, a sample's where it is 1
 unfoldable pub timeOf : ℕ → ℕ → BlockTime
 timeOf blocking n = if eqb blocking 0 then FrameNumber n else SampleNumber n
 
--- Fifteen sync bits and the blocking bit, which is handed on: judged at two bytes.
+-- The sync code and the blocking bit, which is the result. Both bytes are read before the sync code is checked.
 unfoldable pub sync : Ask ℕ
 sync = do
   v ← bits 16
-  require (eqb (v / 2) 0x7ffc) 3
+  require (eqb (v / 2) syncCode) 3
   done (v % 2)
 
--- the third byte: the codes of the size and of the rate
+-- the third byte: the codes of the block size and of the sample rate
 unfoldable pub sizeAndRate : Ask (ℕ × ℕ)
 sizeAndRate = do
   size ← bits 4
@@ -71,7 +33,7 @@ sizeAndRate = do
   require (ltb rate 15) 4
   done (size, rate)
 
--- the bits of a sample, and the bit behind them that must be zero
+-- the bits of a sample, and the bit after them, which must be zero
 unfoldable pub depthAndZero : Ask ℕ
 depthAndZero = do
   code ← bits 3
@@ -80,7 +42,7 @@ depthAndZero = do
   require (eqb reserved 0) 4
   done depth
 
--- the fourth byte
+-- the fourth byte: the channels and the bits of a sample
 unfoldable pub channelsAndBits : Ask (ChannelAssignment × ℕ)
 channelsAndBits = do
   code ← bits 4
@@ -96,21 +58,21 @@ codes = do
   (channels, depth) ← channelsAndBits
   done (record { blocking = blocking; size = size; rate = rate; channels = channels; bits = depth })
 
--- A frame's number has at most 31 bits, which is judged at its last byte.
+-- A frame's number has at most 31 bits, which is checked once its last byte is read.
 unfoldable pub blockTime : ℕ → Ask BlockTime
 blockTime blocking = do
   number ← codedNumber
-  require (eqb blocking 1 || leb number 2147483647) 5
+  require (eqb blocking 1 || leb number largestFrameNumber) 5
   done (timeOf blocking number)
 
--- Section 9.1.8: over all bytes of the header before it.
+-- Section 9.1.8: the check sum of all header bytes before it.
 unfoldable pub headerSum : Ask (Unit {0})
 headerSum = do
   before ← passed
   sum ← bits 8
   require (eqb sum (crc8 before)) 6
 
--- the header behind its first four bytes
+-- the header after its first four bytes
 unfoldable pub headerBehind : Codes → Ask FrameHeader
 headerBehind c = do
   time ← blockTime (c .blocking)
@@ -126,13 +88,7 @@ header = do
 
 -- ---- what a header says of its frame
 
-unfoldable pub channelCount : ChannelAssignment → ℕ
-channelCount (Independent n) = n
-channelCount LeftSide = 2
-channelCount SideRight = 2
-channelCount MidSide = 2
-
--- N: samples of all channels
+-- the samples of all channels together
 unfoldable pub sampleCount : FrameHeader → ℕ
 sampleCount h = channelCount (h .channels) * h .size
 

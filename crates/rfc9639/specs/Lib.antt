@@ -3,6 +3,7 @@
 pub mod CheckSums
 pub mod Integers
 pub mod Number
+pub mod HeaderCodes
 pub mod Header
 pub mod Residual
 pub mod Prediction

@@ -8,7 +8,8 @@ use Rattle.reading.specs.declared.Place.{Place}
 use Rattle.reading.specs.Reading.{Ask, done, _>>=_, _>>_, bits}
 use Rattle.reading.specs.Places.{At, gotAt, refusedAt, shortAt, runAt, placeOf}
 use Rattle.rfc9639.specs.declared.FrameHeader.{FrameHeader}
-use Rattle.rfc9639.specs.Header.{channelCount, sampleCount, firstSample}
+use Rattle.rfc9639.specs.HeaderCodes.{channelCount}
+use Rattle.rfc9639.specs.Header.{sampleCount, firstSample}
 use Rattle.rfc9639.specs.Frame.{Settings, Frame, opening, frame}
 
 -- `number` is 0 for a frame. Else it is the refusal's, and all other fields are 0. `consumed` counts the frame's bytes.

@@ -1,4 +1,4 @@
--- The frame that the writer writes (RFC 9639 section 9; document 01, "The added writer"), and what writing comes to.
+-- The frame that the writer writes (RFC 9639 section 9; document 01, "The added writer"), and the result of writing.
 use Prim.Native.Nat.{ℕ, zero, suc, _+_, _-_, _*_, _/_, _%_, _^_}
 use mathlib.Core.Bool.{Bool, true, false, _&&_, _||_}
 use mathlib.Core.List.{List, [], _∷_, _++_, map}
@@ -15,47 +15,12 @@ use Rattle.rfc9639.specs.declared.Lane.{Lane}
 use Rattle.rfc9639.specs.declared.Lane.the-variants.{Channel, Mid, Side}
 use Rattle.rfc9639.specs.CheckSums.{crc8, crc16}
 use Rattle.rfc9639.specs.Integers.{shiftDown}
-use Rattle.rfc9639.specs.Header.{assignment, channelCount}
+use Rattle.rfc9639.specs.HeaderCodes.{syncCode, largestBlockSize, largestFrameNumber, largestSampleNumber, sizeCode, sizeBits, assignment, channelCount, bitsCode}
 use Rattle.rfc9639.specs.Stereo.{pairwise}
 use Rattle.rfc9639.specs.Frame.{padding}
 use Rattle.rfc9639.specs.Coding.{counting, subframeBits}
 
 -- ---- the header
-
--- Section 9.1.1: the code of the block size itself where there is one, else 6 or 7.
-unfoldable pub sizeCode : ℕ → ℕ
-sizeCode n =
-    if eqb n 192 then 1
-    else if eqb n 576 then 2
-    else if eqb n 1152 then 3
-    else if eqb n 2304 then 4
-    else if eqb n 4608 then 5
-    else if eqb n 256 then 8
-    else if eqb n 512 then 9
-    else if eqb n 1024 then 10
-    else if eqb n 2048 then 11
-    else if eqb n 4096 then 12
-    else if eqb n 8192 then 13
-    else if eqb n 16384 then 14
-    else if eqb n 32768 then 15
-    else if leb n 256 then 6
-    else 7
-
--- Section 9.1.6: the size less one behind the number, in 8 bits for code 6 and in 16 for code 7.
-unfoldable pub sizeBits : ℕ → List ℕ
-sizeBits n =
-    if eqb (sizeCode n) 6 then bitsOf 8 (n - 1)
-    else if eqb (sizeCode n) 7 then bitsOf 16 (n - 1)
-    else []
-
--- Section 9.1.4.
-unfoldable pub bitsCode : ℕ → ℕ
-bitsCode b =
-    if eqb b 8 then 1
-    else if eqb b 12 then 2
-    else if eqb b 16 then 4
-    else if eqb b 20 then 5
-    else 6
 
 -- n bytes 10xxxxxx
 unfoldable pub followers : ℕ → ℕ → List ℕ
@@ -76,7 +41,7 @@ numberBytes v =
 -- the first four bytes: the rate code is 0
 unfoldable pub codeBits : FrameSetting → List ℕ
 codeBits set =
-    bitsOf 15 0x7ffc ++ bitsOf 1 (set .blocking) ++ bitsOf 4 (sizeCode (set .size)) ++ bitsOf 4 0
+    bitsOf 15 syncCode ++ bitsOf 1 (set .blocking) ++ bitsOf 4 (sizeCode (set .size)) ++ bitsOf 4 0
     ++ bitsOf 4 (set .channels) ++ bitsOf 3 (bitsCode (set .bits)) ++ bitsOf 1 0
 
 -- the header before its check sum
@@ -111,7 +76,7 @@ midOf left right = shiftDown 1 (left +ℤ right)
 unfoldable pub sideOf : ℤ → ℤ → ℤ
 sideOf left right = left -ℤ right
 
--- channel c of samples that stand channel after channel, n each
+-- channel c of samples that are stored channel after channel, n for each
 unfoldable pub channel : ℕ → List ℤ → ℕ → List ℤ
 channel n xs c = take n (drop (c * n) xs)
 
@@ -128,11 +93,11 @@ laneBits b n xs lane = subframeBits (laneWidth b lane) (stored n xs lane)
 unfoldable pub subframesBits : FrameSetting → List ℤ → List ℕ
 subframesBits set xs = row (laneBits (set .bits) (set .size) xs) (lanes (assignment (set .channels)))
 
--- up to whole bytes
+-- with zeros up to a whole byte
 unfoldable pub padded : List ℕ → List ℕ
 padded s = s ++ replicate (padding (length s)) 0
 
--- Section 9.3: the sum is over all bytes before it.
+-- Section 9.3: the check sum of all bytes before it.
 unfoldable pub footed : List ℕ → List ℕ
 footed s = s ++ bitsOf 16 (crc16 s)
 
@@ -143,31 +108,32 @@ frameBits set xs = footed (padded (headerBits set ++ subframesBits set xs))
 unfoldable pub frameBytes : FrameSetting → List ℤ → List ℕ
 frameBytes set xs = packed (frameBits set xs)
 
--- The most bits of subframes: for each channel a header of 8 and the samples as they are.
+-- The most bits that the subframes take: for each channel a header of 8 bits and the samples as they are.
 unfoldable pub mostBits : ℕ → ℕ → List Lane → ℕ
 mostBits b n [] = 0
 mostBits b n (lane ∷ ls) = 8 + n * laneWidth b lane + mostBits b n ls
 
--- the most bytes of a frame
+-- the most bytes that a frame takes
 unfoldable pub frameBound : FrameSetting → ℕ
 frameBound set = 16 + (mostBits (set .bits) (set .size) (lanes (assignment (set .channels))) + 7) / 8
 
--- ---- what writing comes to
+-- ---- the result of writing
 
+-- the bits of a sample that can be written
 unfoldable pub writable : ℕ → Bool
 writable b = eqb b 8 || eqb b 12 || eqb b 16 || eqb b 20 || eqb b 24
 
--- the largest number, by the blocking
+-- the largest number: a frame's where the blocking bit is 0, else a sample's
 unfoldable pub numberLimit : ℕ → ℕ
-numberLimit blocking = if eqb blocking 0 then 2147483647 else 2 ^ 36 - 1
+numberLimit blocking = if eqb blocking 0 then largestFrameNumber else largestSampleNumber
 
 -- settings that a frame of `count` samples can have
 unfoldable pub allowed : FrameSetting → ℕ → Bool
 allowed set count =
-    leb (set .channels) 10 && writable (set .bits) && leb (set .blocking) 1 && ltb 0 (set .size) && leb (set .size) 65535
+    leb (set .channels) 10 && writable (set .bits) && leb (set .blocking) 1 && ltb 0 (set .size) && leb (set .size) largestBlockSize
     && leb (set .number) (numberLimit (set .blocking)) && eqb count (channelCount (assignment (set .channels)) * set .size)
 
--- in two's complement
+-- a sample of w bits, in two's complement
 unfoldable pub fits : ℕ → ℤ → Bool
 fits w (pos n) = ltb n (2 ^ (w - 1))
 fits w (negsuc n) = ltb n (2 ^ (w - 1))
@@ -176,7 +142,7 @@ unfoldable pub allFit : ℕ → List ℤ → Bool
 allFit w [] = true
 allFit w (x ∷ xs) = fits w x && allFit w xs
 
--- `number` is 0 for a frame, else the refusal's; of a refusal the length is 0
+-- `number` is 0 for a frame, else the refusal's number; the length of a refusal is 0
 pub record Written : Type 0 where
   pub number : ℕ
   pub length : ℕ
@@ -185,7 +151,7 @@ pub record Written : Type 0 where
 unfoldable pub unwritten : ℕ → List ℕ → Written
 unwritten n out = record { number = n; length = 0; output = out }
 
--- What writing some samples into an output comes to.
+-- The result of writing some samples into an output.
 unfoldable pub write : FrameSetting → List ℤ → List ℕ → Written
 write set xs out =
     if allowed set (length xs)

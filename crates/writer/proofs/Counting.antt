@@ -11,7 +11,7 @@ use Rattle.reading.proofs.Spelling.{row-append}
 use Rattle.rfc9639.specs.declared.ChannelAssignment.{ChannelAssignment}
 use Rattle.rfc9639.specs.declared.FrameSetting.{FrameSetting}
 use Rattle.rfc9639.specs.declared.Lane.{Lane}
-use Rattle.rfc9639.specs.Header.{assignment, channelCount}
+use Rattle.rfc9639.specs.HeaderCodes.{assignment, channelCount}
 use Rattle.rfc9639.specs.Coding.{counting, cost, subframeBits}
 use Rattle.rfc9639.specs.Write.{laneOf, lanes, laneWidth, laneBits, subframesBits}
 use Rattle.rfc9639.proofs.Listing.{width-within, map-counting-last}

@@ -11,7 +11,7 @@ use Rattle.rfc9639.specs.declared.Candidate.{Candidate}
 use Rattle.rfc9639.specs.declared.ChannelAssignment.{ChannelAssignment}
 use Rattle.rfc9639.specs.declared.Lane.{Lane}
 use Rattle.rfc9639.specs.declared.Lane.the-variants.{Mid}
-use Rattle.rfc9639.specs.Header.{channelCount}
+use Rattle.rfc9639.specs.HeaderCodes.{channelCount}
 use Rattle.rfc9639.specs.Coding.{codedAs, subframeBits}
 use Rattle.rfc9639.specs.Write.{laneOf, lanes, laneWidth, stored, laneBits}
 use Rattle.rfc9639.proofs.Listing.{getD-map, length-lanes, lane-at, width-within}

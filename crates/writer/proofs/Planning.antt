@@ -9,7 +9,7 @@ use lib.ListN.{length, take, set, length-set}
 use lib.Seq.{take-suc-set}
 use Rattle.rfc9639.specs.declared.ChannelAssignment.{ChannelAssignment}
 use Rattle.rfc9639.specs.declared.Lane.{Lane}
-use Rattle.rfc9639.specs.Header.{channelCount}
+use Rattle.rfc9639.specs.HeaderCodes.{channelCount}
 use Rattle.rfc9639.specs.Coding.{counting}
 use Rattle.rfc9639.specs.Write.{laneOf, lanes, laneWidth, stored}
 use Rattle.rfc9639.proofs.Listing.{map-counting-last}

@@ -1,21 +1,17 @@
--- The channels, by their code. Assumes nothing.
+-- The channels of the assignment that the code stands for. Assumes nothing.
 use borrow.Author.Needs.{needs}
-use borrow.Author.Tests.{lt-ltb}
-use mathlib.Core.Path.{refl, sym}
-use Rattle.rfc9639.specs.Header.{assignment, channelCount}
-use Rattle.bound.proofs.Allowing.{count-of-pair}
 use Rattle.bound.proofs.channel_count.Statement.{statement}
 use Rattle.bound.proofs.channel_count.Tie as tie
 
-add-result : tie.Need-add-result
-add-result c = search needs
+channel-assignment-requires : tie.Need-channel-assignment-requires
+channel-assignment-requires c κs = search needs
+
+channel-count-requires : tie.Need-channel-count-requires
+channel-count-requires c κs = search needs
 
 returns : tie.Need-returns
-unfolding assignment channelCount
-returns c = rw (lt-ltb _ _ (c .if1 .taken)) refl
-
-returns-2 : tie.Need-returns-2
-returns-2 c = sym (count-of-pair _ (c .if1 .left))
+returns c = cc
 
 pub channel-count-spec : {M : Type 1} → statement M
-channel-count-spec = tie.close (tie.spec add-result returns returns-2)
+channel-count-spec =
+    tie.close (tie.spec channel-assignment-requires channel-count-requires returns)

@@ -4,7 +4,7 @@ use borrow.Author.Tests.{not-true, not-false, le-leb, lt-leb}
 use mathlib.Core.Path.{refl, sym, _∙_}
 use Rattle.rfc9639.specs.Write.{allowed}
 use Rattle.rfc9639.proofs.Listing.{channels-between}
-use Rattle.bound.proofs.Allowing.{some, none, product-fits}
+use Rattle.bound.proofs.Allowing.{nonzero-ltb, zero-ltb, count-fits}
 use Rattle.bound.proofs.is_allowed.Statement.{statement}
 use Rattle.bound.proofs.is_allowed.Tie as tie
 
@@ -25,28 +25,28 @@ returns-3 c = rw (le-leb _ _ (c .before .before .before .if1 .left), sym (c .bef
 
 returns-4 : tie.Need-returns-4
 unfolding allowed
-returns-4 c = rw (le-leb _ _ (c .before .before .before .before .if1 .left), sym (c .before .before .before .is-writable .ensures) ∙ not-false _ (c .before .before .if2 .left), le-leb _ _ (c .before .if3 .left), none (c .if4 .taken)) refl
+returns-4 c = rw (le-leb _ _ (c .before .before .before .before .if1 .left), sym (c .before .before .before .is-writable .ensures) ∙ not-false _ (c .before .before .if2 .left), le-leb _ _ (c .before .if3 .left), zero-ltb (c .if4 .taken)) refl
 
 returns-5 : tie.Need-returns-5
 unfolding allowed
-returns-5 c = rw (le-leb _ _ (c .before .before .before .before .before .if1 .left), sym (c .before .before .before .before .is-writable .ensures) ∙ not-false _ (c .before .before .before .if2 .left), le-leb _ _ (c .before .before .if3 .left), some (c .before .if4 .left), lt-leb _ _ (c .if5 .taken)) refl
+returns-5 c = rw (le-leb _ _ (c .before .before .before .before .before .if1 .left), sym (c .before .before .before .before .is-writable .ensures) ∙ not-false _ (c .before .before .before .if2 .left), le-leb _ _ (c .before .before .if3 .left), nonzero-ltb (c .before .if4 .left), lt-leb _ _ (c .if5 .taken)) refl
 
 number-limit-requires : tie.Need-number-limit-requires
 number-limit-requires c κs = search needs
 
 returns-6 : tie.Need-returns-6
 unfolding allowed
-returns-6 c = rw (le-leb _ _ (c .before .before .before .before .before .before .before .if1 .left), sym (c .before .before .before .before .before .before .is-writable .ensures) ∙ not-false _ (c .before .before .before .before .before .if2 .left), le-leb _ _ (c .before .before .before .before .if3 .left), some (c .before .before .before .if4 .left), le-leb _ _ (c .before .before .if5 .left), sym (c .before .number-limit .ensures), lt-leb _ _ (c .if6 .taken)) refl
+returns-6 c = rw (le-leb _ _ (c .before .before .before .before .before .before .before .if1 .left), sym (c .before .before .before .before .before .before .is-writable .ensures) ∙ not-false _ (c .before .before .before .before .before .if2 .left), le-leb _ _ (c .before .before .before .before .if3 .left), nonzero-ltb (c .before .before .before .if4 .left), le-leb _ _ (c .before .before .if5 .left), sym (c .before .number-limit .ensures), lt-leb _ _ (c .if6 .taken)) refl
 
 channel-count-requires : tie.Need-channel-count-requires
 channel-count-requires c κs = search needs
 
 mul-result : tie.Need-mul-result
-mul-result c = record { fits = product-fits _ _ (rw (c .channel-count .ensures) (channels-between _ .1)) (c .before .before .before .if5 .left) }
+mul-result c = record { fits = count-fits _ _ (rw (c .channel-count .ensures) (channels-between _ .1)) (c .before .before .before .if5 .left) }
 
 returns-7 : tie.Need-returns-7
 unfolding allowed
-returns-7 c = rw (le-leb _ _ (c .before .before .before .before .before .before .before .before .if1 .left), sym (c .before .before .before .before .before .before .before .is-writable .ensures) ∙ not-false _ (c .before .before .before .before .before .before .if2 .left), le-leb _ _ (c .before .before .before .before .before .if3 .left), some (c .before .before .before .before .if4 .left), le-leb _ _ (c .before .before .before .if5 .left), sym (c .before .before .number-limit .ensures), le-leb _ _ (c .before .if6 .left), c .channel-count .ensures) refl
+returns-7 c = rw (le-leb _ _ (c .before .before .before .before .before .before .before .before .if1 .left), sym (c .before .before .before .before .before .before .before .is-writable .ensures) ∙ not-false _ (c .before .before .before .before .before .before .if2 .left), le-leb _ _ (c .before .before .before .before .before .if3 .left), nonzero-ltb (c .before .before .before .before .if4 .left), le-leb _ _ (c .before .before .before .if5 .left), sym (c .before .before .number-limit .ensures), le-leb _ _ (c .before .if6 .left), c .channel-count .ensures) refl
 
 pub is-allowed-spec : {M : Type 1} → statement M
 is-allowed-spec =

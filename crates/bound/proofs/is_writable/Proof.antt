@@ -1,4 +1,4 @@
--- The widths of a sample, test by test as in the definition. Assumes nothing.
+-- The bits of a sample, test by test as in the definition. Assumes nothing.
 use borrow.Author.Tests.{ne-eqb}
 use mathlib.Core.Path.{refl}
 use Rattle.rfc9639.specs.Write.{writable}

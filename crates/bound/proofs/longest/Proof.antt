@@ -1,4 +1,4 @@
--- The settings' tests, and the bound. Assumes nothing.
+-- The tests of the settings, and the longest length. Assumes nothing.
 use native.Mathlib.Omega.{arith}
 use borrow.Author.Needs.{needs}
 use borrow.Author.Tests.{not-true, not-false}
@@ -9,7 +9,7 @@ use Rattle.rfc9639.specs.declared.FrameSetting.{FrameSetting}
 use Rattle.rfc9639.specs.Write.{frameBound, allowed}
 use Rattle.rfc9639.proofs.Allowed.{allowed-facts}
 use Rattle.rfc9639.proofs.Listing.{channels-between}
-use Rattle.bound.proofs.Allowing.{product-fits}
+use Rattle.bound.proofs.Allowing.{count-fits}
 use Rattle.bound.proofs.Within.{wanted, longest-some, longest-none, too-large}
 use Rattle.bound.proofs.longest.Statement.{statement}
 use Rattle.bound.proofs.longest.Tie as tie
@@ -24,7 +24,7 @@ channel-count-requires : tie.Need-channel-count-requires
 channel-count-requires c κs = search needs
 
 mul-count : tie.Need-mul-count
-mul-count c = record { fits = product-fits _ _ (rw (c .channel-count .ensures) (channels-between _ .1)) (c .before .if1 .left) }
+mul-count c = record { fits = count-fits _ _ (rw (c .channel-count .ensures) (channels-between _ .1)) (c .before .if1 .left) }
 
 is-allowed-requires : tie.Need-is-allowed-requires
 is-allowed-requires c κs = search needs

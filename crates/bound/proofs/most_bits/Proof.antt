@@ -1,4 +1,4 @@
--- Each channel's bits, and those that a side channel has more. Assumes nothing.
+-- The bits of each channel, and the extra bits of a side channel. Assumes nothing.
 use native.Mathlib.Omega.{arith}
 use mathlib.Core.Path.{ap, _∙_}
 use Prim.Native.Nat.{_+_, _*_, _≤_}

@@ -1,4 +1,4 @@
--- The largest number, by the blocking. Assumes nothing.
+-- The largest number, by the blocking bit. Assumes nothing.
 use borrow.Author.Tests.{ne-eqb}
 use mathlib.Core.Path.{refl}
 use Rattle.rfc9639.specs.Write.{numberLimit}

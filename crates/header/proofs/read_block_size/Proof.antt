@@ -73,8 +73,8 @@ bytes-are c = read-got 16 _ _ (search needs) (c .before .before .read-bits2 .ens
 returns-7 : tie.Need-returns-7
 returns-7 c = rw (size-16 (c .before .before .before .before .before .if5 .taken)) (sym (check-fails (bits 16) _ _ (λ x. ltb x 65535) 4 (bytes-are (c .before .before)) _ (le-ltb (c .before .before .read2 .given .0 .0) 65535 (omega arith))))
 
-add-t19 : tie.Need-add-t19
-add-t19 c = omega (arith, bits-below 16 _ _ (bytes-are (c .before .before)))
+add-t17 : tie.Need-add-t17
+add-t17 c = omega (arith, bits-below 16 _ _ (bytes-are (c .before .before)))
 
 returns-8 : tie.Need-returns-8
 returns-8 c = rw (size-16 (c .before .before .before .before .before .if5 .taken)) (sym (check-done (bits 16) _ _ (λ x. ltb x 65535) 4 (bytes-are (c .before .before)) _ (lt-ltb (c .before .before .read2 .given .0 .0) 65535 (omega (arith, bits-below 16 _ _ (bytes-are (c .before .before)))))))
@@ -105,7 +105,7 @@ read-block-size-spec =
     enum-told-2
     returns-6
     returns-7
-    add-t19
+    add-t17
     returns-8
     shl-t20
     returns-9)

@@ -7,7 +7,8 @@ use Rattle.reading.specs.Reading.{bits}
 use Rattle.reading.specs.Places.{gotAt, shortAt, runAt}
 use Rattle.reading.proofs.Running.{bind-got, bind-short}
 use Rattle.input.proofs.Laws.{read-got, read-short}
-use Rattle.rfc9639.specs.Header.{blockTime, blockSize, rateBits, headerSum, headerBehind}
+use Rattle.rfc9639.specs.HeaderCodes.{blockSize, rateBits}
+use Rattle.rfc9639.specs.Header.{blockTime, headerSum, headerBehind}
 use Rattle.header.specs.Private.{fielded, fieldedRefusal, timed, timedRefusal, checked, checkedRefusal}
 use Rattle.error.proofs.Passing.{bind-refusal}
 use Rattle.header.proofs.Stepping.{passed-on, then-done}

@@ -3,7 +3,7 @@ use borrow.Author.Needs.{needs}
 use borrow.Author.Tests.{ne-eqb}
 use mathlib.Core.Path.{sym, _∙_}
 use Rattle.reading.specs.Spelling.{bitsOf}
-use Rattle.rfc9639.specs.Write.{sizeBits}
+use Rattle.rfc9639.specs.HeaderCodes.{sizeBits}
 use Rattle.heading.proofs.size_width.Statement.{statement}
 use Rattle.heading.proofs.size_width.Tie as tie
 

@@ -1,15 +1,15 @@
--- The first three bytes, and three calls behind. Assumes nothing.
+-- The first three bytes, and three more writes. Assumes nothing.
 use borrow.Author.Needs.{needs}
 use Rattle.reading.proofs.Spelling.{number}
 use Rattle.rfc9639.specs.Write.{codeBits}
 use Rattle.output.proofs.Chaining.{first, behind, inked-then}
-use Rattle.heading.specs.Private.{threeBits}
-use Rattle.heading.proofs.Heading.{three-binary}
+use Rattle.heading.specs.Private.{syncToRateBits}
+use Rattle.heading.proofs.Heading.{sync-to-rate-binary}
 use Rattle.heading.proofs.write_codes.Statement.{statement}
 use Rattle.heading.proofs.write_codes.Tie as tie
 
-write-three-requires : tie.Need-write-three-requires
-write-three-requires c κs = search needs
+write-sync-to-rate-requires : tie.Need-write-sync-to-rate-requires
+write-sync-to-rate-requires c κs = search needs
 
 cast-write-bits : tie.Need-cast-write-bits
 cast-write-bits c = search needs
@@ -30,20 +30,20 @@ same-length : tie.Need-same-length
 same-length c = search needs
 
 returns : tie.Need-returns
-unfolding codeBits threeBits
+unfolding codeBits syncToRateBits
 returns c =
     let w4 = c .before .before in
     let w3 = w4 .before .before .before .before in
     let w2 = w3 .before .before .before .before .before in
     let w1 = w2 .before .before .before .before .before in
-    let wrote = first (three-binary (w1 .before .before .before .args .set)) (w1 .write-three .ensures) in
+    let wrote = first (sync-to-rate-binary (w1 .before .before .before .args .set)) (w1 .write-sync-to-rate .ensures) in
     rw (← (w3 .before .bits-code .ensures)) (inked-then (behind (behind wrote (number 4 _) (w2 .write-bits .ensures)) (number 3 _) (w3 .write-bits2 .ensures)) _ (w4 .write-bits3 .ensures))
 
 pub write-codes-spec : {M : Type 1} → statement M
 write-codes-spec =
     tie.close
     (tie.spec
-    write-three-requires
+    write-sync-to-rate-requires
     cast-write-bits
     write-bits-requires
     bits-code-requires

@@ -1,4 +1,4 @@
--- The codes, the number and the size, one behind the other. Assumes nothing.
+-- The codes, the number and the size, one after the other. Assumes nothing.
 use borrow.Author.Needs.{needs}
 use Rattle.rfc9639.specs.Write.{fieldBits}
 use Rattle.rfc9639.proofs.Whole.{bits-codes, bits-number}

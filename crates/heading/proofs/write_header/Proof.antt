@@ -1,4 +1,4 @@
--- Nothing where there is no room; else the fields, and the sum of their bytes. Assumes nothing.
+-- Nothing where there is no room; else the fields, and the check sum of their bytes. Assumes nothing.
 use Prim.Native.Nat.{_*_, _≤_}
 use borrow.Author.Needs.{needs}
 use native.Mathlib.Omega.{arith}
@@ -23,7 +23,7 @@ returns c = rw (c .start .ensures) (sym (headed-none _ _ (omega (arith, c .befor
 write-fields-requires : tie.Need-write-fields-requires
 write-fields-requires c κs = search needs
 
--- behind the test there is room
+-- past the test there is room
 room : (c : tie.After-write-fields) → length (headerBits (c .before .before .before .before .before .args .set)) ≤ 8 * length (c .before .before .before .before .before .args .out .now)
 room c = omega (arith, c .before .before .before .header-length .ensures, c .before .before .if1 .left, header-whole (c .before .before .before .before .before .args .set))
 

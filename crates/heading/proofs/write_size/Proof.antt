@@ -1,4 +1,4 @@
--- The size less one, in as many bits as its code says. Assumes nothing.
+-- The size less one, in as many bits as its code asks for. Assumes nothing.
 use borrow.Author.Needs.{needs}
 use Rattle.heading.proofs.write_size.Statement.{statement}
 use Rattle.heading.proofs.write_size.Tie as tie
@@ -6,8 +6,8 @@ use Rattle.heading.proofs.write_size.Tie as tie
 size-width-requires : tie.Need-size-width-requires
 size-width-requires c κs = search needs
 
-less-one-requires : tie.Need-less-one-requires
-less-one-requires c κs = search needs
+saturating-sub-requires : tie.Need-saturating-sub-requires
+saturating-sub-requires c κs = search needs
 
 write-bits-requires : tie.Need-write-bits-requires
 write-bits-requires c κs = search needs
@@ -18,9 +18,9 @@ same-length c = search needs
 returns : tie.Need-returns
 returns c =
     let w = c .before .before in
-    rw (w .before .before .size-width .ensures, ← (w .before .less-one .ensures)) (w .write-bits .ensures)
+    rw (w .before .before .size-width .ensures, ← (w .before .saturating-sub .ensures)) (w .write-bits .ensures)
 
 pub write-size-spec : {M : Type 1} → statement M
 write-size-spec =
     tie.close
-    (tie.spec size-width-requires less-one-requires write-bits-requires same-length returns)
+    (tie.spec size-width-requires saturating-sub-requires write-bits-requires same-length returns)

@@ -1,4 +1,4 @@
--- What is a pen, by its two tests: each return is one case of the definition's. Assumes nothing.
+-- Whether it is a pen, by the two tests of the definition. Assumes nothing.
 use Prim.Native.Nat.{ℕ, _/_, _^_, _≤_, _<_}
 use borrow.Author.Needs.{needs}
 use native.Mathlib.Nat.{div-lt-iff-lt-mul, le-div-iff-mul-le, one-mul}
@@ -9,7 +9,7 @@ use Rattle.output.proofs.Inking.{good-pen, many-no-pen, high-no-pen}
 use Rattle.output.proofs.is_pen.Statement.{statement}
 use Rattle.output.proofs.is_pen.Tie as tie
 
--- nothing is left of the bits above those held
+-- no bits are set above those held
 shifted-out : (b k : ℕ) → b / 2 ^ k ≤ 0 → b < 2 ^ k
 shifted-out b k h = rw one-mul at (div-lt-iff-lt-mul {x = b} {y = 1} (pow-pos k) .0 (omega arith))
 

@@ -1,4 +1,4 @@
--- m bits more in the byte begun are those bits inked. Assumes nothing.
+-- Adding m bits to the byte being filled is inking them. Assumes nothing.
 use borrow.Author.Needs.{needs}
 use native.Mathlib.Omega.{arith}
 use Rattle.output.proofs.Writing.{joined-below, put-few, put-byte}

@@ -1,17 +1,16 @@
--- Zeros by 32, then the rest with the one. The invariant (Unwritten): inking what is left, from here, gives the whole
--- answer. Assumes nothing.
+-- Zeros by 32, then the rest with the one; the loop's invariant is BitsLeft. Assumes nothing.
 use borrow.Author.Needs.{needs}
 use borrow.Author.Tests.{not-true, not-false}
 use native.Mathlib.Omega.{arith}
 use mathlib.Core.Path.{sym}
 use Rattle.reading.specs.Spelling.{unary}
 use Rattle.output.proofs.Inking.{inked-none}
-use Rattle.output.proofs.Writing.{Unwritten, begin, out, step-zeros, end-zeros}
+use Rattle.output.proofs.Writing.{BitsLeft, begin, out, step-zeros, end-zeros}
 use Rattle.output.proofs.write_unary.Statement.{statement}
 use Rattle.output.proofs.write_unary.Tie as tie
 
 abbrev Inv-loop : tie.InvT-loop
-Inv-loop out₀ q p₀ left₀ out p left = Unwritten (unary q) p₀ out₀ (unary left) p out
+Inv-loop out₀ q p₀ left₀ out p left = BitsLeft (unary q) p₀ out₀ (unary left) p out
 
 abbrev μ-loop : tie.MeasureT-loop
 μ-loop out₀ q p₀ left₀ out p left = left

@@ -4,7 +4,7 @@ use mathlib.Core.Path.{_≡_, ap, sym, _∙_}
 use borrow.Author.Needs.{needs}
 use lib.ListN.{length}
 use Rattle.rfc9639.specs.declared.ChannelAssignment.{ChannelAssignment}
-use Rattle.rfc9639.specs.Header.{channelCount}
+use Rattle.rfc9639.specs.HeaderCodes.{channelCount}
 use Rattle.rfc9639.specs.Stereo.{joined}
 use Rattle.frame.proofs.stereo.join.Statement.{statement}
 use Rattle.frame.proofs.stereo.join.Tie as tie

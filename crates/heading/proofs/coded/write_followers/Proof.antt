@@ -1,5 +1,4 @@
--- The loop inks the bytes behind the first, the highest bits first. The invariant (Following): those that are left, from
--- here, give the whole answer. Assumes nothing.
+-- The loop inks the bytes after the first, the highest bits first; its invariant is Following. Assumes nothing.
 use borrow.Author.Needs.{needs}
 use Rattle.heading.proofs.Coding.{Following, begin, step, end}
 use Rattle.heading.proofs.coded.write_followers.Statement.{statement}

@@ -1,7 +1,7 @@
 -- What a subframe stores, test by test as in the definition. Assumes nothing.
 use borrow.Author.Tests.{lt-ltb, le-ltb, ne-eqb}
 use mathlib.Core.Path.{refl}
-use Rattle.rfc9639.specs.Header.{assignment}
+use Rattle.rfc9639.specs.HeaderCodes.{assignment}
 use Rattle.rfc9639.specs.Write.{laneOf}
 use Rattle.writer.proofs.lane.lane_of.Statement.{statement}
 use Rattle.writer.proofs.lane.lane_of.Tie as tie

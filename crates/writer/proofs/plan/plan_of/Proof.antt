@@ -3,7 +3,7 @@ use Prim.Native.Nat.{_-_}
 use native.Mathlib.Omega.{arith}
 use borrow.Author.Needs.{needs}
 use mathlib.Core.Path.{refl}
-use Rattle.rfc9639.specs.Header.{assignment}
+use Rattle.rfc9639.specs.HeaderCodes.{assignment}
 use Rattle.rfc9639.specs.Write.{laneOf}
 use Rattle.rfc9639.proofs.Listing.{channels-between}
 use Rattle.writer.specs.Private.{laneChoice}

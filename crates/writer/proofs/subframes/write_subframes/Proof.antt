@@ -2,7 +2,7 @@
 use Prim.Native.Nat.{_-_, _≤_}
 use native.Mathlib.Omega.{arith}
 use borrow.Author.Needs.{needs}
-use Rattle.rfc9639.specs.Header.{assignment}
+use Rattle.rfc9639.specs.HeaderCodes.{assignment}
 use Rattle.rfc9639.specs.Write.{lanes, laneBits, subframesBits}
 use Rattle.rfc9639.proofs.Listing.{length-lanes, channels-between}
 use Rattle.output.proofs.Rows.{Unwritten, begin, end}

@@ -3,9 +3,9 @@ use borrow.Author.Tests.{ne-eqb, le-leb, lt-leb}
 use mathlib.Core.Path.{_≡_, sym, _∙_}
 use mathlib.Core.Bool.{cond}
 use lib.Dec.{leb}
-use Rattle.rfc9639.specs.Write.{sizeCode}
-use Rattle.heading.proofs.size_code.Statement.{statement}
-use Rattle.heading.proofs.size_code.Tie as tie
+use Rattle.rfc9639.specs.HeaderCodes.{sizeCode}
+use Rattle.header_codes.proofs.size_code.Statement.{statement}
+use Rattle.header_codes.proofs.size_code.Tie as tie
 
 returns : tie.Need-returns
 unfolding sizeCode
@@ -59,7 +59,7 @@ returns-13 : tie.Need-returns-13
 unfolding sizeCode
 returns-13 c = rw (c .match .keys13)
 
--- behind the arms the size has no code of its own
+-- after all arms the size has no code of its own
 uncoded : (c : tie.At-match-rest) → sizeCode (c .before .args .n) ≡ cond (leb (c .before .args .n) 256) 6 7
 unfolding sizeCode
 uncoded c =

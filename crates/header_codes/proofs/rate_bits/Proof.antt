@@ -1,8 +1,8 @@
 -- How many bits of a rate follow, by its code. Assumes nothing.
 use borrow.Author.Tests.{ne-eqb}
-use Rattle.rfc9639.specs.Header.{rateBits}
-use Rattle.header.proofs.rate_bits.Statement.{statement}
-use Rattle.header.proofs.rate_bits.Tie as tie
+use Rattle.rfc9639.specs.HeaderCodes.{rateBits}
+use Rattle.header_codes.proofs.rate_bits.Statement.{statement}
+use Rattle.header_codes.proofs.rate_bits.Tie as tie
 
 returns : tie.Need-returns
 unfolding rateBits

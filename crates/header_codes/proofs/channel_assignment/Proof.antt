@@ -1,9 +1,9 @@
 -- The channels by their code, test by test as in the definition. Assumes nothing.
 use borrow.Author.Needs.{needs}
 use borrow.Author.Tests.{lt-ltb, le-ltb, ne-eqb}
-use Rattle.rfc9639.specs.Header.{assignment}
-use Rattle.header.proofs.channel_assignment.Statement.{statement}
-use Rattle.header.proofs.channel_assignment.Tie as tie
+use Rattle.rfc9639.specs.HeaderCodes.{assignment}
+use Rattle.header_codes.proofs.channel_assignment.Statement.{statement}
+use Rattle.header_codes.proofs.channel_assignment.Tie as tie
 
 add-t4 : tie.Need-add-t4
 add-t4 c = search needs

@@ -1,8 +1,8 @@
 -- The channels of an assignment, as the definition counts them. Assumes nothing.
 use borrow.Author.Needs.{needs}
-use Rattle.rfc9639.specs.Header.{channelCount}
-use Rattle.frame.proofs.channel_count.Statement.{statement}
-use Rattle.frame.proofs.channel_count.Tie as tie
+use Rattle.rfc9639.specs.HeaderCodes.{channelCount}
+use Rattle.header_codes.proofs.channel_count.Statement.{statement}
+use Rattle.header_codes.proofs.channel_count.Tie as tie
 
 enum-known-c : tie.Need-enum-known-c
 enum-known-c c = search needs

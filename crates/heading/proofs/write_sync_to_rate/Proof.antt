@@ -1,10 +1,11 @@
--- Four calls in a row. Assumes nothing.
+-- Four consecutive writes. Assumes nothing.
 use borrow.Author.Needs.{needs}
 use Rattle.reading.proofs.Spelling.{number}
+use Rattle.rfc9639.specs.HeaderCodes.{syncCode}
 use Rattle.output.proofs.Chaining.{first, behind, inked-then}
-use Rattle.heading.specs.Private.{threeBits}
-use Rattle.heading.proofs.write_three.Statement.{statement}
-use Rattle.heading.proofs.write_three.Tie as tie
+use Rattle.heading.specs.Private.{syncToRateBits}
+use Rattle.heading.proofs.write_sync_to_rate.Statement.{statement}
+use Rattle.heading.proofs.write_sync_to_rate.Tie as tie
 
 start-requires : tie.Need-start-requires
 start-requires c κs = search needs
@@ -31,17 +32,17 @@ same-length : tie.Need-same-length
 same-length c = search needs
 
 returns : tie.Need-returns
-unfolding threeBits
+unfolding syncToRateBits
 returns c =
     let w4 = c .before .before in
     let w3 = w4 .before .before .before .before in
     let w2 = w3 .before .before .before .before .before in
     let w1 = w2 .before .before .before .before .before in
-    let wrote = first (number 15 0x7ffc) (rw (w1 .before .start .ensures) at (w1 .write-bits .ensures)) in
+    let wrote = first (number 15 syncCode) (rw (w1 .before .start .ensures) at (w1 .write-bits .ensures)) in
     rw (← (w3 .before .size-code .ensures)) (inked-then (behind (behind wrote (number 1 _) (w2 .write-bits2 .ensures)) (number 4 _) (w3 .write-bits3 .ensures)) _ (w4 .write-bits4 .ensures))
 
-pub write-three-spec : {M : Type 1} → statement M
-write-three-spec =
+pub write-sync-to-rate-spec : {M : Type 1} → statement M
+write-sync-to-rate-spec =
     tie.close
     (tie.spec
     start-requires

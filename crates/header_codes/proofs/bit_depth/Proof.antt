@@ -1,8 +1,8 @@
 -- The bits of a sample by their code, test by test as in the definition. Assumes nothing.
 use borrow.Author.Tests.{ne-eqb}
-use Rattle.rfc9639.specs.Header.{bitDepth}
-use Rattle.header.proofs.bit_depth.Statement.{statement}
-use Rattle.header.proofs.bit_depth.Tie as tie
+use Rattle.rfc9639.specs.HeaderCodes.{bitDepth}
+use Rattle.header_codes.proofs.bit_depth.Statement.{statement}
+use Rattle.header_codes.proofs.bit_depth.Tie as tie
 
 returns : tie.Need-returns
 unfolding bitDepth

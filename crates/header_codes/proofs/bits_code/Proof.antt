@@ -1,8 +1,8 @@
 -- The code of the bits of a sample, test by test as in the definition. Assumes nothing.
 use borrow.Author.Tests.{ne-eqb}
-use Rattle.rfc9639.specs.Write.{bitsCode}
-use Rattle.heading.proofs.bits_code.Statement.{statement}
-use Rattle.heading.proofs.bits_code.Tie as tie
+use Rattle.rfc9639.specs.HeaderCodes.{bitsCode}
+use Rattle.header_codes.proofs.bits_code.Statement.{statement}
+use Rattle.header_codes.proofs.bits_code.Tie as tie
 
 returns : tie.Need-returns
 unfolding bitsCode

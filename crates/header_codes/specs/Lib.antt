@@ -1,0 +1,2 @@
+-- The meaning of an answer, in the words of the definition.
+pub mod Answers
