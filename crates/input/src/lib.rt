@@ -31,7 +31,7 @@ pub fn read_bits(s: &[u8], at: Place, n: u32) -> Bits
         if s.len() <= byte {
             return Bits::Short;
         }
-        let m = lesser(8 - bit, left);
+        let m = number::lesser(8 - bit, left);
         acc = (acc << m) + chunk(s[byte], bit, m);
         p = skip(p, m);
         left -= m;
@@ -99,10 +99,4 @@ fn skip(at: Place, m: usize) -> Place
         };
     }
     Place { byte, bit: bit + m }
-}
-
-fn lesser(a: usize, b: usize) -> usize
-    ensures { λ r. ⌜ (r ≤ a) × (r ≤ b) × ((0 < a) → (0 < b) → 0 < r) ⌝ }
-{
-    if a < b { a } else { b }
 }
