@@ -37,17 +37,15 @@ module _ (p : Ask (List ℤ)) (s : List ℕ) (at : Place) (k : List ℤ → Ask 
   pub passed-on : {r : Decoded} {e : Refusal} (l : List ℤ) → means r l ≡ runAt p s at → r ≡ Refused e → (left : List ℤ) → means r left ≡ runAt (p >>= k) s at
   passed-on {e = e} l told d left = ap (λ x. means x left) d ∙ sym (bind-refusal p s at k e (refused-is l told d))
 
--- one reader, then a decoder, and what both give
-module _ {A : Type 0} (p : Ask A) (q : Ask (List ℤ)) (g : A → List ℤ → List ℤ) (s : List ℕ) (at : Place) {a : A} {at′ : Place} (first : runAt p s at ≡ gotAt a at′) where
-  pub second-done : {l : List ℤ} {end : Place} → runAt q s at′ ≡ gotAt l end → gotAt (g a l) end ≡ runAt (p >>= (λ x. q >>= (λ y. done (g x y)))) s at
-  second-done {l} {end} h =
-      sym
-      (bind-got p s at (λ x. q >>= (λ y. done (g x y))) first ∙ bind-got q s at′ (λ y. done (g a y)) h ∙ runAt-done (g a l) (stays-in q s at′ h))
+-- a reader, then a function of what it got
+pub bind-done : {A B : Type 0} (p : Ask A) (g : A → B) (s : List ℕ) (at : Place) {a : A} {at′ : Place} → runAt p s at ≡ gotAt a at′
+    → runAt (p >>= (λ x. done (g x))) s at ≡ gotAt (g a) at′
+bind-done p g s at {a} e = bind-got p s at (λ x. done (g x)) e ∙ runAt-done (g a) (stays-in p s at e)
 
-  pub second-refused : {r : Decoded} {e : Refusal} (l : List ℤ) → means r l ≡ runAt q s at′ → r ≡ Refused e → (left : List ℤ)
-      → means r left ≡ runAt (p >>= (λ x. q >>= (λ y. done (g x y)))) s at
-  second-refused l told d left =
-      passed-on q s at′ (λ y. done (g a y)) l told d left ∙ sym (bind-got p s at (λ x. q >>= (λ y. done (g x y))) first)
+-- a decoder, then a function of the samples that it left
+pub then-done : (p : Ask (List ℤ)) (g : List ℤ → List ℤ) (s : List ℕ) (at : Place) {r : Decoded} (l : List ℤ) → means r l ≡ runAt p s at
+    → {q : Place} {left : List ℤ} → r ≡ Done q → left ≡ g l → gotAt left q ≡ runAt (p >>= (λ x. done (g x))) s at
+then-done p g s at l told {q} e f = ap (λ t. gotAt t q) f ∙ sym (bind-done p g s at (done-is l told e))
 
 -- what was read before goes in front of what a decoder left
 pub behind-refusal : {A : Type 0} (xs : List A) (e : Refusal) → behind xs (refusedBy e) ≡ refusedBy e
@@ -91,6 +89,18 @@ module _ {A : Type 0} (m : ℕ) (l : List A) (h : m ≤ length l) where
 
   pub rest-put : (w : List A) → putMid m (length l - m) l w ≡ take m l ++ w
   rest-put w = ap (λ (t : List A). take m l ++ t) (ap (λ (t : List A). w ++ t) (post-is m (length l) l h ∙ drop-length l) ∙ append-nil w)
+
+-- the first m are lent to a decoder of as many samples as it is lent
+module _ (f : ℕ → Ask (List ℤ)) (s : List ℕ) (at : Place) (m : ℕ) (l : List ℤ) (h : m ≤ length l) {r : Decoded} (v : List ℤ)
+    (told : means r v ≡ runAt (f (length (take m l))) s at) where
+  pub front-got : {p : Place} → r ≡ Done p → runAt (f m) s at ≡ gotAt v p
+  front-got e = sym (first-size m l h (λ n. runAt (f n) s at)) ∙ done-is v told e
+
+  pub front-stops : (k : List ℤ → Ask (List ℤ)) {e : Refusal} → r ≡ Refused e → (left : List ℤ) → means r left ≡ runAt (f m >>= k) s at
+  front-stops k d left = passed-on (f m) s at k v (told ∙ first-size m l h (λ n. runAt (f n) s at)) d left
+
+  pub front-then : (k : List ℤ → Ask (List ℤ)) {p : Place} → r ≡ Done p → runAt (k v) s p ≡ runAt (f m >>= k) s at
+  front-then k e = sym (bind-got (f m) s at k (front-got e))
 
 -- both: v in the first m, and then w in the rest
 module _ {A : Type 0} (m : ℕ) (l : List A) (h : m ≤ length l) (v : List A) (kept : length v ≡ length (take m l)) where

@@ -1,15 +1,19 @@
 -- What the answers of a channel's private functions mean, in the words of the definition, and what they ask of each other:
 -- only contracts of private functions name it, so nobody has to believe it.
-use Prim.Native.Nat.{ℕ, _-_, _≤_}
+use Prim.Native.Nat.{ℕ, _-_, _^_, _≤_}
 use mathlib.Core.List.{List, _++_}
 use lib.IntN.{ℤ, pos}
-use lib.ListN.{length, replicate}
-use Rattle.reading.specs.Reading.{Ask, done, stop}
+use lib.ListN.{length, take, drop, replicate}
+use Rattle.reading.specs.Reading.{Ask, done, stop, _>>=_}
 use Rattle.reading.specs.Places.{At, gotAt, shortAt}
 use Rattle.error.specs.Numbers.{refusedBy}
+use Rattle.number.specs.Private.{Small}
 use Rattle.rfc9639.specs.declared.SubframeType.{SubframeType}
 use Rattle.rfc9639.specs.declared.SubframeType.the-variants.{Constant, Verbatim, Fixed, Lpc}
 use Rattle.rfc9639.specs.declared.SubframeHeader.{SubframeHeader}
+use Rattle.rfc9639.specs.Residual.{residual}
+use Rattle.rfc9639.specs.Prediction.{predict}
+use Rattle.rfc9639.specs.Subframe.{lpcBehind}
 use Rattle.subframe.specs.declared.answers.Kind.{Kind}
 use Rattle.subframe.specs.declared.answers.Sample.{Sample}
 use Rattle.subframe.specs.declared.answers.Sample.the-variants.{Value, Short}
@@ -59,3 +63,23 @@ padded n xs = xs ++ replicate (n - length xs) (pos 0)
 abbrev pub sampled : Sample → At ℤ
 sampled (Value x p) = gotAt x p
 sampled Short = shortAt
+
+-- ---- prediction
+
+-- at most `most` coefficients, no more than the block has samples, and small enough for exact sums
+abbrev pub Predictable : ℕ → List ℤ → List ℤ → Type 0
+Predictable most coefficients block = (length coefficients ≤ most) × (length coefficients ≤ length block) × Small (2 ^ 15) coefficients
+
+-- a block that holds its warm-up samples and its residual, with the samples in the residual's place
+abbrev pub predictedInPlace : List ℤ → ℕ → List ℤ → List ℤ
+predictedInPlace coefficients shift block = predict coefficients shift (take (length coefficients) block) (drop (length coefficients) block)
+
+-- what follows the coefficients of a block that starts with its warm-up samples
+abbrev pub predictedBlock : List ℤ → ℕ → List ℤ → Ask (List ℤ)
+predictedBlock coefficients shift block = do
+  res ← residual (length coefficients) (length block)
+  done (predict coefficients shift (take (length coefficients) block) res)
+
+-- the same from the coefficients on
+abbrev pub lpcBlock : ℕ → ℕ → ℕ → List ℤ → Ask (List ℤ)
+lpcBlock order precision shift block = lpcBehind order precision shift (take order block) (length block)

@@ -12,7 +12,7 @@ use error::Refusal;
 use header::order_of;
 use header::read_quantizer;
 use header::read_subframe_header;
-use predict::predict_fixed;
+use predict::fixed_coefficients;
 use predict::predict_lpc;
 use reading::Place;
 use residual::decode_residual;
@@ -23,13 +23,13 @@ use rfc9639::SubframeType;
 ghost use mathlib.Core.Path.{_≡_};
 ghost use Prim.Native.Nat.{_≤_, _<_};
 ghost use lib.IntN.{pos};
-ghost use lib.ListN.{length, take};
+ghost use lib.ListN.{length};
 ghost use mathlib.Core.List.{map};
 ghost use Rattle.reading.specs.Places.{runAt};
-ghost use Rattle.rfc9639.specs.Subframe.{fixed, lpc, samples, orderOf, lpcBehind, subframeBehind};
+ghost use Rattle.rfc9639.specs.Subframe.{fixed, lpc, samples, orderOf, subframeBehind};
 ghost use Rattle.rfc9639.specs.Integers.{shiftUp};
 ghost use Rattle.subframe.specs.Answers.{means, Left, decodeAt};
-ghost use Rattle.subframe.specs.Private.{Orderly};
+ghost use Rattle.subframe.specs.Private.{Orderly, Predictable, predictedBlock, lpcBlock};
 
 // The place behind what was decoded, or why it stopped.
 pub enum Decoded {
@@ -49,7 +49,29 @@ fn decode_constant(s: &[u8], at: Place, width: u32, out: &mut [i32]) -> Decoded
     Decoded::Done(p)
 }
 
-// RFC 9639 section 9.2.5: the warm-up samples, then the residual, each into its part; then the samples in place.
+// What follows the warm-up samples and the coefficients (RFC 9639 sections 9.2.5 and 9.2.6): the residual into the rest of
+// the block, then prediction in place.
+fn decode_predicted(
+    s: &[u8],
+    at: Place,
+    coefficients: &[i32],
+    shift: u32,
+    out: &mut [i32],
+) -> Decoded
+    requires { ⌜ Predictable 32 (now coefficients) (now out) ⌝ }
+    ensures { λ r. ⌜ means r (now (out .exit)) ≡ runAt (predictedBlock (now (coefficients .entry)) shift (now (out .entry))) (now (s .entry)) at ⌝ }
+{
+    let order = coefficients.len();
+    let n = out.len();
+    let residual = decode_residual(s, at, order, n, &mut out[order..]);
+    let Decoded::Done(p) = residual else {
+        return residual;
+    };
+    predict_lpc(coefficients, shift, out);
+    Decoded::Done(p)
+}
+
+// RFC 9639 section 9.2.5: a fixed predictor is a linear one with known coefficients and no shift.
 fn decode_fixed(s: &[u8], at: Place, width: u32, order: usize, out: &mut [i32]) -> Decoded
     requires { ⌜ (width ≤ 32) × (order ≤ 4) × (order ≤ length (now out)) ⌝ }
     ensures { λ r. ⌜ means r (now (out .exit)) ≡ runAt (fixed order width (length (now (out .entry)))) (now (s .entry)) at ⌝ }
@@ -58,17 +80,12 @@ fn decode_fixed(s: &[u8], at: Place, width: u32, order: usize, out: &mut [i32]) 
     let Decoded::Done(p) = warm else {
         return warm;
     };
-    let n = out.len();
-    let residual = decode_residual(s, p, order, n, &mut out[order..]);
-    let Decoded::Done(q) = residual else {
-        return residual;
-    };
-    predict_fixed(order, out);
-    Decoded::Done(q)
+    let coefficients = fixed_coefficients(order);
+    decode_predicted(s, p, &coefficients[..order], 0, out)
 }
 
-// RFC 9639 section 9.2.6 behind the shift: the coefficients, the residual, and the samples in place.
-fn decode_lpc_residual(
+// RFC 9639 section 9.2.6, after the shift: the coefficients, and the samples that they predict.
+fn decode_lpc_after_shift(
     s: &[u8],
     at: Place,
     precision: u32,
@@ -77,20 +94,14 @@ fn decode_lpc_residual(
     out: &mut [i32],
 ) -> Decoded
     requires { ⌜ (precision ≤ 15) × (shift < 16) × (order ≤ 32) × (order ≤ length (now out)) ⌝ }
-    ensures { λ r. ⌜ means r (now (out .exit)) ≡ runAt (lpcBehind order precision shift (take order (now (out .entry))) (length (now (out .entry)))) (now (s .entry)) at ⌝ }
+    ensures { λ r. ⌜ means r (now (out .exit)) ≡ runAt (lpcBlock order precision shift (now (out .entry))) (now (s .entry)) at ⌝ }
 {
     let mut coefficients = [0i32; 32];
     let read = decode_verbatim(s, at, precision, &mut coefficients[..order]);
     let Decoded::Done(p) = read else {
         return read;
     };
-    let n = out.len();
-    let residual = decode_residual(s, p, order, n, &mut out[order..]);
-    let Decoded::Done(q) = residual else {
-        return residual;
-    };
-    predict_lpc(&coefficients[..order], shift, out);
-    Decoded::Done(q)
+    decode_predicted(s, p, &coefficients[..order], shift, out)
 }
 
 // RFC 9639 section 9.2.6: the warm-up samples, the precision and the shift, and what is behind them.
@@ -104,7 +115,7 @@ fn decode_lpc(s: &[u8], at: Place, width: u32, order: usize, out: &mut [i32]) ->
     };
     let quantizer = read_quantizer(s, p);
     match quantizer {
-        Quantizer::Known(precision, shift, q) => decode_lpc_residual(
+        Quantizer::Known(precision, shift, q) => decode_lpc_after_shift(
             s,
             q,
             precision,

@@ -89,8 +89,8 @@ module _ (c : tie.After-read-quantizer) where
   told : quantized (c .read-quantizer .result) ≡ runAt quantization (s verbatim) place
   told = c .read-quantizer .ensures
 
-decode-lpc-residual-requires : tie.Need-decode-lpc-residual-requires
-decode-lpc-residual-requires c κs =
+decode-lpc-after-shift-requires : tie.Need-decode-lpc-after-shift-requires
+decode-lpc-after-shift-requires c κs =
     let k = c .before .before in let q = k .before .before in let v = verbatim q in
     let sound = quantization-sound (s v) (place q) (told q) (k .quantizer .given .1) in
     (sound .few, sound .near, start v .pre .1, omega (arith, whole v, start v .pre .2))
@@ -104,7 +104,7 @@ same-length-2 c = search needs
 returns-2 : tie.Need-returns-2
 returns-2 c =
     let r = c .before in let k = r .before .before .before in let q = k .before .before in let v = verbatim q in
-    r .decode-lpc-residual .ensures
+    r .decode-lpc-after-shift .ensures
     ∙ ap₂ (λ (w : List ℤ) n. runAt (lpcBehind (order v) (k .quantizer .given .0 .0) (k .quantizer .given .0 .1 .0) w n) (s v) (k .quantizer .given .0 .1 .1 .0))
     (first-taken (order v) (out v) (start v .pre .2) (warm v) (v .decode-verbatim .kept .1 .1 .1 .0) (drop (order v) (out v))) (whole v)
     ∙ sym
@@ -133,7 +133,7 @@ decode-lpc-spec =
     returns
     read-quantizer-requires
     enum-known-quantizer
-    decode-lpc-residual-requires
+    decode-lpc-after-shift-requires
     enum-known-quantizer-2
     same-length-2
     returns-2
