@@ -3,7 +3,7 @@
 use Prim.Native.Nat.{ℕ, suc, _+_, _*_, _-_, _/_, _%_, _^_, _≤_, _<_}
 use native.Mathlib.Nat.{mod-eq-of-lt, lt-of-lt-of-le}
 use native.Mathlib.Omega.{arith}
-use mathlib.Core.Path.{_≡_, refl, ap, sym, _∙_, subst}
+use mathlib.Core.Path.{_≡_, refl, ap, sym, _∙_}
 use mathlib.Core.Bool.{Bool, true, false}
 use mathlib.Core.List.{List}
 use mathlib.Core.Logic.{_⊎_, inl, inr, ⊎-elim}
@@ -11,24 +11,12 @@ use borrow.Author.Tests.{lt-ltb, le-ltb, ltb-true, ltb-false}
 use lib.Dec.{ltb}
 use lib.Pow.{pow-mono}
 use Rattle.reading.specs.declared.Place.{Place}
-use Rattle.reading.specs.Reading.{Ask, bits, zeros}
+use Rattle.reading.specs.Reading.{bits, zeros}
 use Rattle.reading.specs.Places.{At, gotAt, refusedAt, shortAt, runAt}
 use Rattle.reading.proofs.Running.{bits-below}
-use Rattle.reading.proofs.Holding.{Holds, Meets, holds-at, holds-bits, holds-zeros}
 use Rattle.input.specs.declared.Bits.{Bits}
 use Rattle.input.specs.declared.Bits.the-variants.{Value, Short}
 use Rattle.input.specs.Answers.{means, mapAt, low64, count, counted}
-
--- ---- the questions never refuse
-
-calm : {A : Type 0} {P : A → Type 0} {p : Ask A} → Holds (λ n. ⊥) P p → (s : List ℕ) (at : Place) (k : ℕ) → runAt p s at ≡ refusedAt k → ⊥
-calm {P = P} h s at k e = subst (Meets (λ n. ⊥) P) e (holds-at (λ n. ⊥) P s at h)
-
-pub bits-calm : (n : ℕ) (s : List ℕ) (at : Place) (k : ℕ) → runAt (bits n) s at ≡ refusedAt k → ⊥
-bits-calm n s at k e = calm (holds-bits n) s at k e
-
-pub zeros-calm : (s : List ℕ) (at : Place) (k : ℕ) → runAt zeros s at ≡ refusedAt k → ⊥
-zeros-calm s at k e = calm holds-zeros s at k e
 
 -- ---- read_bits: a number of at most 64 bits is whole
 

@@ -1,7 +1,7 @@
 -- The loops that read: what is still to be read from here makes the answer. Each turn passes some bits of one byte.
 -- Assumes nothing.
 use Prim.Native.Nat.{ℕ, suc, _+_, _*_, _-_, _/_, _%_, _^_, _≤_, _<_}
-use native.Mathlib.Nat.{mod-lt, zero-add}
+use native.Mathlib.Nat.{mod-lt}
 use native.Mathlib.Numerals.{add-one}
 use native.Mathlib.Omega.{arith}
 use mathlib.Core.Path.{_≡_, refl, ap, ap₂, sym, _∙_}
@@ -12,7 +12,7 @@ use Rattle.reading.specs.declared.Place.{Place}
 use Rattle.reading.specs.Reading.{bits, zeros, nextBits, nextZeros, answer, bitsFrom}
 use Rattle.reading.specs.Places.{position, placeOf, gotAt, shortAt, runAt}
 use Rattle.reading.proofs.Bits.{bitsAt, zerosAt, chunk-step, bits-out, zero-step, one-step, zeros-out}
-use Rattle.reading.proofs.Running.{In, place-position, position-place, runAt-ask, ofAnswer}
+use Rattle.reading.proofs.Running.{In, place-position, position-place}
 use Rattle.input.specs.Answers.{low64, count, counted}
 use Rattle.input.proofs.Answering.{told, told-found, told-cut, ask-in}
 use Rattle.input.proofs.Words.{grown}

@@ -9,7 +9,7 @@ use borrow.Author.Tests.{le-leb, lt-leb}
 use borrow.Rule.Slice.PartMut.{putMid}
 use lib.IntN.{ℤ, pos, negsuc}
 use lib.ListN.{length, take, drop, getD, set, replicate, length-set}
-use lib.Seq.{take-suc-set, drop-set-lt, drop-cons, append-snoc, take-all, take-at, drop-at, drop-length}
+use lib.Seq.{take-suc-set, drop-set-lt, drop-cons, append-snoc, take-all, drop-length}
 use mir.Syntax.{w32}
 use mir.Val.{SFits, toZ, ofZ}
 use mir.Facts.{toZ-ofZ}
@@ -17,7 +17,7 @@ use Rattle.reading.specs.declared.Place.{Place}
 use Rattle.reading.specs.Reading.{Ask, done, _>>=_, many}
 use Rattle.reading.specs.Places.{At, gotAt, refusedAt, shortAt, runAt}
 use Rattle.reading.proofs.Running.{In, bind-short, require-holds, require-fails}
-use Rattle.reading.proofs.Holding.{Holds, value, Meets, Every, Sized, holds-at, holds-bind, holds-bits, holds-many}
+use Rattle.reading.proofs.Holding.{Holds, value, Every, Sized, holds-bind, holds-bits, holds-many}
 use Rattle.error.specs.declared.Refusal.{Refusal}
 use Rattle.number.specs.Private.{Small}
 use Rattle.rfc9639.specs.declared.SubframeHeader.{SubframeHeader}
@@ -33,8 +33,8 @@ use Rattle.subframe.specs.declared.answers.Sample.{Sample}
 use Rattle.subframe.specs.declared.answers.Sample.the-variants.{Value, Short}
 use Rattle.subframe.specs.Answers.{means, decodeAt, cleared, Left}
 use Rattle.subframe.specs.Private.{sampled, Predictable, predictedInPlace, predictedBlock}
-use Rattle.subframe.proofs.Lending.{done-is, refused-is, passed-on, bind-done, then-done, rest-put, first-taken, first-dropped}
-use Rattle.subframe.proofs.Behind.{Any}
+use Rattle.subframe.proofs.Lending.{answer-is, done-is, refused-is, passed-on, bind-done, then-done, rest-put, first-taken, first-dropped}
+use Rattle.subframe.proofs.Behind.{Any, got-holds}
 
 -- ---- a slice that is changed in place, each number by f
 
@@ -71,10 +71,6 @@ module _ {f : ℤ → ℤ} {l₀ l : List ℤ} {i : ℕ} (inv : Mapped f l₀ l 
       none : drop i l ≡ []
       none = ap (λ n. drop n l) (let e : i ≡ length l = omega (arith, inv .within) in e) ∙ drop-length l
 
-pub map-constant : (x : ℤ) (l : List ℤ) → map (λ _. x) l ≡ replicate (length l) x
-map-constant x [] = refl
-map-constant x (y ∷ l) = ap (λ (t : List ℤ). x ∷ t) (map-constant x l)
-
 -- ---- a predictor's block
 
 -- the residual is put after the warm-up samples, and prediction makes the block of both
@@ -110,24 +106,19 @@ holds-sample w h = holds-bind _ (holds-bits w) (λ v l. value (fits-mono h (sign
 
 pub read-row : (precision order : ℕ) → precision ≤ 15 → (s : List ℕ) (at : Place) {cs : List ℤ} {p : Place}
     → runAt (many order (sample precision)) s at ≡ gotAt cs p → (length cs ≡ order) × Small (2 ^ 15) cs
-read-row precision order h s at {cs} got = (sized .count, small-every cs (sized .every))
-  where
-    sized : Sized order (Fits 15) cs
-    sized =
-        subst (Meets Any (Sized order (Fits 15))) got (holds-at Any (Sized order (Fits 15)) s at (holds-many order (holds-sample precision h)))
+read-row precision order h s at {cs} got =
+    let sized : Sized order (Fits 15) cs = got-holds (holds-many order (holds-sample precision h)) s at got in (sized .count, small-every cs (sized .every))
 
 -- ---- one sample for all
 
 module _ (w n : ℕ) (s : List ℕ) (at : Place) {r : Sample} (told : sampled r ≡ runAt (sample w) s at) where
   pub constant-short : r ≡ Short → shortAt ≡ runAt (samples Constant w n) s at
   unfolding samples
-  constant-short e = sym (bind-short (sample w) s at (λ x. done (replicate n x)) (sym told ∙ ap sampled e))
+  constant-short e = sym (bind-short (sample w) s at (λ x. done (replicate n x)) (answer-is sampled told e))
 
   pub constant-done : {x : ℤ} {p : Place} {l : List ℤ} → r ≡ Value x p → l ≡ replicate n x → gotAt l p ≡ runAt (samples Constant w n) s at
   unfolding samples
-  constant-done {x} {p} e f =
-      let got : runAt (sample w) s at ≡ gotAt x p = sym told ∙ ap sampled e in
-      ap (λ t. gotAt t p) f ∙ sym (bind-done (sample w) (replicate n) s at got)
+  constant-done {p = p} e f = ap (λ t. gotAt t p) f ∙ sym (bind-done (sample w) (replicate n) s at (answer-is sampled told e))
 
 -- ---- behind a header
 

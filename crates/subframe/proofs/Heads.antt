@@ -20,6 +20,7 @@ use Rattle.rfc9639.specs.declared.SubframeType.{SubframeType}
 use Rattle.rfc9639.specs.declared.SubframeHeader.{SubframeHeader}
 use Rattle.rfc9639.specs.Subframe.{subframeType, wastedBits, subframeHeader, wastedJudged, kindAndWasted, quantization}
 use Rattle.subframe.specs.Private.{Quantization}
+use Rattle.subframe.proofs.Lending.{bind-done}
 
 -- ---- the wasted bits
 
@@ -92,7 +93,7 @@ module _ (width : ℕ) (s : List ℕ) (at : Place) where
       module _ {z c : ℕ} {q : Place} (g : runAt zeros s p ≡ gotAt z q) (o : c ≡ count z) where
         ran : runAt wastedBits s at ≡ gotAt (z + 1) q
         unfolding counted-on
-        ran = set on ∙ bind-got zeros s p (λ x. done (x + 1)) g ∙ runAt-done (z + 1) (stays-in zeros s p g)
+        ran = set on ∙ bind-done zeros (λ x. x + 1) s p g
 
         few : c ≤ 30 → z ≡ c
         few l = let h = count-at-most z 30 (omega arith) (omega arith) in omega (arith, count-few {z = z} (omega arith))
@@ -146,7 +147,7 @@ module _ (width : ℕ) where
 
         pub known-got : {k : ℕ} {q : Place} → runAt (wastedJudged width) s p ≡ gotAt k q → runAt (kindAndWasted width) s at ≡ gotAt (record { kind = kind; wasted = k }) q
         unfolding headerOf
-        known-got {k} g = known ∙ bind-got (wastedJudged width) s p (λ x. done (headerOf kind x)) g ∙ runAt-done (headerOf kind k) (stays-in (wastedJudged width) s p g)
+        known-got g = known ∙ bind-done (wastedJudged width) (headerOf kind) s p g
 
         pub known-stops : (x : Refusal) → runAt (wastedJudged width) s p ≡ refusedBy x → runAt (kindAndWasted width) s at ≡ refusedBy x
         known-stops x g = known ∙ bind-refusal (wastedJudged width) s p _ x g

@@ -1,7 +1,6 @@
 -- Parts `&mut out[a..e]` of a lent slice that are handed to a decoder and come back, and a decoder's answer that is used
 -- or passed on. Assumes nothing.
 use Prim.Native.Nat.{ℕ, _-_, _≤_}
-use native.Mathlib.Nat.{le-refl}
 use native.Mathlib.Omega.{arith}
 use mathlib.Core.Path.{_≡_, refl, ap, sym, _∙_}
 use mathlib.Core.Bool.{Bool, true, false, cond}
@@ -24,13 +23,16 @@ use Rattle.subframe.specs.Answers.{means}
 
 -- ---- a decoder's answer
 
--- what was left, by what a match found of the answer
+-- what a function answered, by what a match found of it
+pub answer-is : {A B : Type 0} (f : A → B) {x : B} {r r′ : A} → f r ≡ x → r ≡ r′ → x ≡ f r′
+answer-is f told e = sym told ∙ ap f e
+
 module _ {x : At (List ℤ)} {r : Decoded} (l : List ℤ) (told : means r l ≡ x) where
   pub done-is : {p : Place} → r ≡ Done p → x ≡ gotAt l p
-  done-is e = sym told ∙ ap (λ d. means d l) e
+  done-is e = answer-is (λ d. means d l) told e
 
   pub refused-is : {e : Refusal} → r ≡ Refused e → x ≡ refusedBy e
-  refused-is e = sym told ∙ ap (λ d. means d l) e
+  refused-is e = answer-is (λ d. means d l) told e
 
 -- a refusal is passed on, whatever stands in the slice then
 module _ (p : Ask (List ℤ)) (s : List ℕ) (at : Place) (k : List ℤ → Ask (List ℤ)) where
@@ -75,17 +77,11 @@ module _ {A : Type 0} (a e : ℕ) (l : List A) (h : e ≤ length l) where
         ap (take e) (sym (append-assoc (take a l) v (postOf a (e - a) l)))
         ∙ take-at (take a l ++ v) (postOf a (e - a) l) e (omega (arith, length-append (take a l) v, length-take-le a l (omega arith), kept, mid-len a e l h))
 
-    pub part-put : putMid a (e - a) l v ≡ take a l ++ (v ++ drop e l)
-    part-put = ap (λ t. take a l ++ (v ++ t)) (post-is a e l g)
-
 -- ---- the first m, and the rest
 
 module _ {A : Type 0} (m : ℕ) (l : List A) (h : m ≤ length l) where
   pub first-size : {B : Type 0} (p : ℕ → B) → p (length (take m l)) ≡ p m
   first-size p = ap p (length-take-le m l h)
-
-  pub rest-size : {B : Type 0} (p : ℕ → B) → p (length (midOf m (length l - m) l)) ≡ p (length l - m)
-  rest-size p = part-size m (length l) l (le-refl (length l)) p
 
   pub rest-put : (w : List A) → putMid m (length l - m) l w ≡ take m l ++ w
   rest-put w = ap (λ (t : List A). take m l ++ t) (ap (λ (t : List A). w ++ t) (post-is m (length l) l h ∙ drop-length l) ∙ append-nil w)
@@ -121,9 +117,6 @@ module _ {A : Type 0} (m : ℕ) (l : List A) (h : m ≤ length l) (v : List A) (
 
   within : m ≤ length between
   within = omega (arith, between-long)
-
-  pub both-size : {B : Type 0} (p : ℕ → B) → p (length (midOf m (length between - m) between)) ≡ p (length l - m)
-  both-size p = rest-size m between within p ∙ ap (λ n. p (n - m)) between-long
 
   pub both-put : (w : List A) → putMid m (length between - m) between w ≡ v ++ w
   both-put w = rest-put m between within w ∙ ap (λ (t : List A). t ++ w) (first-taken (drop m l))

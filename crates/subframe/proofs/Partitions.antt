@@ -27,7 +27,7 @@ use Rattle.subframe.specs.declared.Decoded.{Decoded}
 use Rattle.subframe.specs.declared.Decoded.the-variants.{Done, Refused}
 use Rattle.subframe.specs.Answers.{means}
 use Rattle.error.proofs.Passing.{bind-refusal}
-use Rattle.subframe.proofs.Lending.{done-is, refused-is, passed-on, behind-refusal, behind-means, part-size, part-taken}
+use Rattle.subframe.proofs.Lending.{done-is, refused-is, behind-refusal, behind-means, part-size, part-taken}
 
 -- ---- a partition
 
@@ -71,10 +71,6 @@ module _ (f : ℕ → Ask (List ℤ)) (n : ℕ) (ns : List ℕ) (s : List ℕ) (
   pub first-refused : (e : Refusal) → runAt (f n) s at ≡ refusedBy e → runAt (each f (n ∷ ns)) s at ≡ refusedBy e
   unfolding each
   first-refused e h = bind-refusal (f n) s at _ e h
-
-  pub first-stops : {r : Decoded} {e : Refusal} (l : List ℤ) → means r l ≡ runAt (f n) s at → r ≡ Refused e → (left : List ℤ) → means r left ≡ runAt (each f (n ∷ ns)) s at
-  unfolding each
-  first-stops l told d left = passed-on (f n) s at _ l told d left
 
   pub first-then : {v : List ℤ} {p : Place} → runAt (f n) s at ≡ gotAt v p → (r : Decoded) (w : List ℤ) → means r w ≡ runAt (each f ns) s p
       → means r (v ++ w) ≡ runAt (each f (n ∷ ns)) s at

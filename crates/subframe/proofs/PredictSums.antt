@@ -18,7 +18,7 @@ use mir.Facts.{toZ-ofZ}
 use Rattle.number.specs.Private.{Small}
 use Rattle.number.proofs.Sizes.{Dotted, room, coefficient, step, sample-fits}
 use Rattle.rfc9639.specs.Prediction.{dot, fixedCoefficients}
-use Rattle.subframe.specs.Private.{padded}
+use Rattle.subframe.specs.Private.{padded, Predictable}
 
 -- ---- the latest sample first
 
@@ -85,19 +85,19 @@ dot-latest cs l m i h k g =
 
 -- ---- a loop over the products, as the functions have it: a signed value is handed on by its bits
 
-module _ (cs before : List ℤ) {acc j : ℕ} (inv : Dotted cs (reverse before) acc j) (few : length cs ≤ 32) (long : length cs ≤ length before)
-    (small : Small (2 ^ 15) cs) (l : j < length cs) (c : SFits w32 (getD cs j (pos 0))) where
+module _ (cs before : List ℤ) {acc j : ℕ} (inv : Dotted cs (reverse before) acc j) (fit : Predictable 32 cs before) (l : j < length cs)
+    (c : SFits w32 (getD cs j (pos 0))) where
   enough : length cs ≤ length (reverse before)
   enough = omega (arith, length-reverse before)
 
   pub asks : (natAbs (toZ w64 acc) < 2 ^ 62) × (natAbs (toZ w32 (ofZ w32 (getD cs j (pos 0)))) < 2 ^ 15)
-  asks = (room inv few, rw (toZ-ofZ c) (coefficient inv few enough small l))
+  asks = (room inv (fit .0), rw (toZ-ofZ c) (coefficient inv (fit .0) enough (fit .2) l))
 
   pub turn : (k : ℕ) → k ≡ length before - 1 - j → SFits w32 (getD before k (pos 0)) → (r : ℤ)
       → r ≡ toZ w64 acc +ℤ toZ w32 (ofZ w32 (getD cs j (pos 0))) *ℤ toZ w32 (ofZ w32 (getD before k (pos 0))) → SFits w64 r
       → Dotted cs (reverse before) (ofZ w64 r) (j + 1)
   turn k e f r h g =
-      step inv few enough small l r (h ∙ ap₂ (λ (a b : ℤ). toZ w64 acc +ℤ a *ℤ b) (toZ-ofZ c) (toZ-ofZ f ∙ sym there)) (rw there (sample-fits f)) g
+      step inv (fit .0) enough (fit .2) l r (h ∙ ap₂ (λ (a b : ℤ). toZ w64 acc +ℤ a *ℤ b) (toZ-ofZ c) (toZ-ofZ f ∙ sym there)) (rw there (sample-fits f)) g
     where
       there : getD (reverse before) j (pos 0) ≡ getD before k (pos 0)
       there = reverse-at before j (omega arith) ∙ ap (λ n. getD before n (pos 0)) (sym e)

@@ -13,7 +13,7 @@ use mir.Facts.{toZ-ofZ}
 use Rattle.reading.specs.declared.Place.{Place}
 use Rattle.reading.specs.Reading.{Ask, done, _>>=_, bits, zeros}
 use Rattle.reading.specs.Places.{gotAt, shortAt, runAt}
-use Rattle.reading.proofs.Running.{stays-in, runAt-done, bind-got, bind-short, bits-below}
+use Rattle.reading.proofs.Running.{bind-got, bind-short, bits-below}
 use Rattle.input.specs.declared.Bits.{Bits}
 use Rattle.input.specs.declared.Bits.the-variants.{Value, Short}
 use Rattle.input.specs.Answers.{means, low64, count, counted}
@@ -23,6 +23,7 @@ use Rattle.signed.proofs.Extending.{extend-signed}
 use Rattle.rfc9639.specs.Integers.{signed, wrapped, sample}
 use Rattle.rfc9639.specs.Residual.{folded, unfolded, rice}
 use Rattle.rfc9639.proofs.Widths.{signed-fits, fits-mono, wrapped-same}
+use Rattle.subframe.proofs.Lending.{bind-done}
 
 -- ---- a sample
 
@@ -43,7 +44,7 @@ module _ (w : ℕ) (s : List ℕ) (at : Place) (h : w ≤ 32) {r : Bits} (told :
   sample-got {v} {q} {x} {z} e f fx g fz =
       let got = read-got w s at (omega arith) told e in
       sym
-      (bind-got (bits w) s at (λ v. done (signed w v)) got ∙ runAt-done (signed w v) (stays-in (bits w) s at got)
+      (bind-done (bits w) (signed w) s at got
       ∙ ap (λ y. gotAt y q) (sym (toZ-ofZ fz ∙ g ∙ ap (wrapped 32) (toZ-ofZ fx ∙ f) ∙ narrowed w v h (bits-below w s at got))))
 
 -- ---- a residual
@@ -94,6 +95,5 @@ module _ (k : ℕ) (s : List ℕ) (at : Place) (h : k ≤ 31) {u : Bits} (high :
           let got = unary-got s at high e in
           let rest = read-got k s p (omega arith) told f in
           sym
-          (bind-got zeros s at (low k) (got .1) ∙ bind-got (bits k) s p (λ r. done (unfolded (folded k (got .0) r))) rest
-          ∙ runAt-done (unfolded (folded k (got .0) v)) (stays-in (bits k) s p rest)
+          (bind-got zeros s at (low k) (got .1) ∙ bind-done (bits k) (λ r. unfolded (folded k (got .0) r)) s p rest
           ∙ ap (λ y. gotAt y next) (sym (toZ-ofZ fz ∙ ez ∙ ap unfolded (en ∙ ap (λ x. folded k x v) (got .2) ∙ folded-count k (got .0) v))))

@@ -7,7 +7,6 @@ use borrow.Author.Needs.{needs}
 use lib.IntN.{ℤ}
 use lib.ListN.{length, drop}
 use lib.Seq.{length-take-le}
-use Rattle.reading.specs.declared.Place.{Place}
 use Rattle.reading.specs.Reading.{Ask, _>>=_, done, many}
 use Rattle.rfc9639.specs.Integers.{sample}
 use Rattle.rfc9639.specs.Residual.{residual}

@@ -7,7 +7,6 @@ use borrow.Author.Needs.{needs}
 use lib.IntN.{ℤ, pos}
 use lib.ListN.{length, take, drop, replicate}
 use lib.Seq.{length-take-le}
-use Rattle.reading.specs.declared.Place.{Place}
 use Rattle.reading.specs.Reading.{Ask, done, _>>=_, many}
 use Rattle.number.specs.Private.{Small}
 use Rattle.rfc9639.specs.Integers.{sample}
