@@ -29,10 +29,10 @@ use Rattle.rfc9639.specs.Subframe.{orderOf, samples, subframe, subframeBehind}
 use Rattle.rfc9639.proofs.Widths.{Fits, fits-mono, signed-fits}
 use Rattle.subframe.specs.declared.Decoded.{Decoded}
 use Rattle.subframe.specs.declared.Decoded.the-variants.{Done, Refused}
-use Rattle.subframe.specs.declared.answers.Sample.{Sample}
-use Rattle.subframe.specs.declared.answers.Sample.the-variants.{Value, Short}
+use Rattle.subframe.specs.declared.answers.SampleRead.{SampleRead}
+use Rattle.subframe.specs.declared.answers.SampleRead.the-variants.{Value, Short}
 use Rattle.subframe.specs.Answers.{means, decodeAt, cleared, Left}
-use Rattle.subframe.specs.Private.{sampled, Predictable, predictedInPlace, predictedBlock}
+use Rattle.subframe.specs.Private.{sampleReadAt, Predictable, predictedInPlace, predictedBlock}
 use Rattle.subframe.proofs.Lending.{answer-is, done-is, refused-is, passed-on, bind-done, then-done, rest-put, first-taken, first-dropped}
 use Rattle.subframe.proofs.Behind.{Any, got-holds}
 
@@ -111,14 +111,14 @@ read-row precision order h s at {cs} got =
 
 -- ---- one sample for all
 
-module _ (w n : ℕ) (s : List ℕ) (at : Place) {r : Sample} (told : sampled r ≡ runAt (sample w) s at) where
+module _ (w n : ℕ) (s : List ℕ) (at : Place) {r : SampleRead} (told : sampleReadAt r ≡ runAt (sample w) s at) where
   pub constant-short : r ≡ Short → shortAt ≡ runAt (samples Constant w n) s at
   unfolding samples
-  constant-short e = sym (bind-short (sample w) s at (λ x. done (replicate n x)) (answer-is sampled told e))
+  constant-short e = sym (bind-short (sample w) s at (λ x. done (replicate n x)) (answer-is sampleReadAt told e))
 
   pub constant-done : {x : ℤ} {p : Place} {l : List ℤ} → r ≡ Value x p → l ≡ replicate n x → gotAt l p ≡ runAt (samples Constant w n) s at
   unfolding samples
-  constant-done {p = p} e f = ap (λ t. gotAt t p) f ∙ sym (bind-done (sample w) (replicate n) s at (answer-is sampled told e))
+  constant-done {p = p} e f = ap (λ t. gotAt t p) f ∙ sym (bind-done (sample w) (replicate n) s at (answer-is sampleReadAt told e))
 
 -- ---- behind a header
 

@@ -16,9 +16,9 @@ use Rattle.reading.specs.declared.Place.{Place}
 use Rattle.reading.specs.Reading.{Ask, many}
 use Rattle.reading.specs.Places.{gotAt, shortAt, runAt}
 use Rattle.reading.proofs.Running.{In, stays-in, behind, behind-nil, many-end, many-step, many-short}
-use Rattle.subframe.specs.declared.answers.Sample.{Sample}
-use Rattle.subframe.specs.declared.answers.Sample.the-variants.{Value, Short}
-use Rattle.subframe.specs.Private.{sampled}
+use Rattle.subframe.specs.declared.answers.SampleRead.{SampleRead}
+use Rattle.subframe.specs.declared.answers.SampleRead.the-variants.{Value, Short}
+use Rattle.subframe.specs.Private.{sampleReadAt}
 use Rattle.subframe.proofs.Lending.{answer-is}
 
 -- of l₀ the first i are filled, and l is what it holds now
@@ -52,12 +52,12 @@ module _ {p : Ask ℤ} {s : List ℕ} {at₀ : Place} {l₀ l : List ℤ} {i : �
   }
 
   -- A turn and the ways out, by what the reader's function answered. A signed value is stored by its bits.
-  module _ {r : Sample} (told : sampled r ≡ runAt p s at) where
+  module _ {r : SampleRead} (told : sampleReadAt r ≡ runAt p s at) where
     pub step : {z : ℤ} {q : Place} → r ≡ Value z q → SFits w32 z → i < length l → Filling p s at₀ l₀ (set l i (toZ w32 (ofZ w32 z))) (i + 1) q
-    step e f h = rw (toZ-ofZ f) (filled h (answer-is sampled told e))
+    step e f h = rw (toZ-ofZ f) (filled h (answer-is sampleReadAt told e))
 
     pub cut : r ≡ Short → i < length l → shortAt ≡ runAt (many (length l₀) p) s at₀
-    cut e h = sym (next h ∙ many-short p s (take i l) at (length l₀ - (i + 1)) (answer-is sampled told e))
+    cut e h = sym (next h ∙ many-short p s (take i l) at (length l₀ - (i + 1)) (answer-is sampleReadAt told e))
 
   pub end : length l ≤ i → gotAt l at ≡ runAt (many (length l₀) p) s at₀
   end h =

@@ -18,7 +18,7 @@ use mir.Facts.{toZ-ofZ}
 use Rattle.number.specs.Private.{Small}
 use Rattle.number.proofs.Sizes.{Dotted, room, coefficient, step, sample-fits}
 use Rattle.rfc9639.specs.Prediction.{dot, fixedCoefficients}
-use Rattle.subframe.specs.Private.{padded, Predictable}
+use Rattle.subframe.specs.Private.{withZeros, Predictable}
 
 -- ---- the latest sample first
 
@@ -125,12 +125,12 @@ module _ {n : ℕ} {cs l : List ℤ} {j : ℕ} (inv : Padding n cs l j) where
       c : ℤ
       c = getD cs j (pos 0)
 
-  pub pad-end : length cs ≤ j → l ≡ padded n cs
+  pub pad-end : length cs ≤ j → l ≡ withZeros n cs
   pad-end h =
       inv .same ∙ ap₂ (λ (t : List ℤ) m. t ++ replicate m (pos 0)) (take-all j cs h) (let e : n - j ≡ n - length cs = omega (arith, inv .within) in e)
 
 -- m taps and the latest m of i samples make the coefficients' sum
-module _ (m : ℕ) (cs taps l : List ℤ) (i : ℕ) (few : length cs ≤ m) (is : taps ≡ padded m cs) (h : m ≤ i) (g : i ≤ length l) where
+module _ (m : ℕ) (cs taps l : List ℤ) (i : ℕ) (few : length cs ≤ m) (is : taps ≡ withZeros m cs) (h : m ≤ i) (g : i ≤ length l) where
   size : length taps ≡ m
   size =
       ap length is ∙ length-append cs (replicate (m - length cs) (pos 0)) ∙ ap (λ n. length cs + n) (length-replicate (m - length cs) (pos 0))

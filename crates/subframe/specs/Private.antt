@@ -15,25 +15,25 @@ use Rattle.rfc9639.specs.Residual.{residual}
 use Rattle.rfc9639.specs.Prediction.{predict}
 use Rattle.rfc9639.specs.Subframe.{lpcBehind}
 use Rattle.subframe.specs.declared.answers.Kind.{Kind}
-use Rattle.subframe.specs.declared.answers.Sample.{Sample}
-use Rattle.subframe.specs.declared.answers.Sample.the-variants.{Value, Short}
-use Rattle.subframe.specs.declared.answers.Wasted.{Wasted}
-use Rattle.subframe.specs.declared.answers.HeaderRead.{HeaderRead}
-use Rattle.subframe.specs.declared.answers.Quantizer.{Quantizer}
+use Rattle.subframe.specs.declared.answers.SampleRead.{SampleRead}
+use Rattle.subframe.specs.declared.answers.SampleRead.the-variants.{Value, Short}
+use Rattle.subframe.specs.declared.answers.WastedRead.{WastedRead}
+use Rattle.subframe.specs.declared.answers.SubframeHeaderRead.{SubframeHeaderRead}
+use Rattle.subframe.specs.declared.answers.QuantizerRead.{QuantizerRead}
 
 -- ---- the header
 
-abbrev pub kindTree : Kind → Ask SubframeType
-kindTree (Kind.Known k) = done k
-kindTree Kind.Reserved = stop 4
+abbrev pub kindAsk : Kind → Ask SubframeType
+kindAsk (Kind.Known k) = done k
+kindAsk Kind.Reserved = stop 4
 
-abbrev pub wastedOf : Wasted → At ℕ
-wastedOf (Wasted.Count n p) = gotAt n p
-wastedOf (Wasted.Refused e) = refusedBy e
+abbrev pub wastedAt : WastedRead → At ℕ
+wastedAt (WastedRead.Count n p) = gotAt n p
+wastedAt (WastedRead.Refused e) = refusedBy e
 
-abbrev pub headed : HeaderRead → At SubframeHeader
-headed (HeaderRead.Header h p) = gotAt h p
-headed (HeaderRead.Refused e) = refusedBy e
+abbrev pub subframeHeaderAt : SubframeHeaderRead → At SubframeHeader
+subframeHeaderAt (SubframeHeaderRead.Header h p) = gotAt h p
+subframeHeaderAt (SubframeHeaderRead.Refused e) = refusedBy e
 
 -- ---- what is behind it
 
@@ -50,19 +50,19 @@ Orderly (Lpc k) = k ≤ 32
 abbrev pub Quantization : Type 0
 Quantization = ℕ × ℕ
 
-abbrev pub quantized : Quantizer → At Quantization
-quantized (Quantizer.Known precision shift p) = gotAt (precision, shift) p
-quantized (Quantizer.Refused e) = refusedBy e
+abbrev pub quantizerAt : QuantizerRead → At Quantization
+quantizerAt (QuantizerRead.Known precision shift p) = gotAt (precision, shift) p
+quantizerAt (QuantizerRead.Refused e) = refusedBy e
 
 -- with zeros behind them, n in all
-abbrev pub padded : ℕ → List ℤ → List ℤ
-padded n xs = xs ++ replicate (n - length xs) (pos 0)
+abbrev pub withZeros : ℕ → List ℤ → List ℤ
+withZeros n xs = xs ++ replicate (n - length xs) (pos 0)
 
 -- ---- one sample
 
-abbrev pub sampled : Sample → At ℤ
-sampled (Value x p) = gotAt x p
-sampled Short = shortAt
+abbrev pub sampleReadAt : SampleRead → At ℤ
+sampleReadAt (Value x p) = gotAt x p
+sampleReadAt Short = shortAt
 
 -- ---- prediction
 

@@ -5,9 +5,9 @@ mod header;
 mod predict;
 mod residual;
 
-use answers::HeaderRead;
-use answers::Quantizer;
-use answers::Sample;
+use answers::QuantizerRead;
+use answers::SampleRead;
+use answers::SubframeHeaderRead;
 use error::Refusal;
 use header::order_of;
 use header::read_quantizer;
@@ -42,7 +42,7 @@ fn decode_constant(s: &[u8], at: Place, width: u32, out: &mut [i32]) -> Decoded
     ensures { λ r. ⌜ means r (now (out .exit)) ≡ runAt (samples SubframeType.Constant width (length (now (out .entry)))) (now (s .entry)) at ⌝ }
 {
     let read = read_sample(s, at, width);
-    let Sample::Value(x, p) = read else {
+    let SampleRead::Value(x, p) = read else {
         return Decoded::Refused(Refusal::CutShort);
     };
     block::fill(out, x);
@@ -115,7 +115,7 @@ fn decode_lpc(s: &[u8], at: Place, width: u32, order: usize, out: &mut [i32]) ->
     };
     let quantizer = read_quantizer(s, p);
     match quantizer {
-        Quantizer::Known(precision, shift, q) => decode_lpc_after_shift(
+        QuantizerRead::Known(precision, shift, q) => decode_lpc_after_shift(
             s,
             q,
             precision,
@@ -123,7 +123,7 @@ fn decode_lpc(s: &[u8], at: Place, width: u32, order: usize, out: &mut [i32]) ->
             order,
             out,
         ),
-        Quantizer::Refused(e) => Decoded::Refused(e),
+        QuantizerRead::Refused(e) => Decoded::Refused(e),
     }
 }
 
@@ -152,7 +152,13 @@ fn shift_all(out: &mut [i32], wasted: u32)
 }
 
 // What is behind a subframe's header.
-fn decode_headed(s: &[u8], at: Place, h: SubframeHeader, width: u32, out: &mut [i32]) -> Decoded
+fn decode_after_header(
+    s: &[u8],
+    at: Place,
+    h: SubframeHeader,
+    width: u32,
+    out: &mut [i32],
+) -> Decoded
     requires { ⌜ (width ≤ 32) × Orderly (h .kind) × (h .wasted ≤ width) ⌝ }
     ensures { λ r. ⌜ means r (now (out .exit)) ≡ runAt (subframeBehind (length (now (out .entry))) width h) (now (s .entry)) at ⌝ }
 {
@@ -181,8 +187,8 @@ fn decode_subframe(s: &[u8], at: Place, width: u32, out: &mut [i32]) -> Decoded
     }
     let read = read_subframe_header(s, at, width);
     match read {
-        HeaderRead::Header(h, p) => decode_headed(s, p, h, width, out),
-        HeaderRead::Refused(e) => Decoded::Refused(e),
+        SubframeHeaderRead::Header(h, p) => decode_after_header(s, p, h, width, out),
+        SubframeHeaderRead::Refused(e) => Decoded::Refused(e),
     }
 }
 

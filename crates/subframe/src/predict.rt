@@ -8,7 +8,7 @@ ghost use lib.ListN.{length, take};
 ghost use Rattle.rfc9639.specs.Prediction.{dot as dotOf, fixedCoefficients};
 ghost use Rattle.rfc9639.specs.Integers.{wrapped, shiftDown};
 ghost use Rattle.number.specs.Private.{Small};
-ghost use Rattle.subframe.specs.Private.{padded, Predictable, predictedInPlace};
+ghost use Rattle.subframe.specs.Private.{withZeros, Predictable, predictedInPlace};
 
 fn mul_add(sum: i64, c: i32, x: i32) -> i64
     requires { ⌜ (natAbs sum < 2 ^ 62) × (natAbs c < 2 ^ 15) ⌝ }
@@ -55,7 +55,7 @@ fn predict_lpc_high_order(coefficients: &[i32], shift: u32, out: &mut [i32])
 // At most twelve coefficients with zeros behind them: a sum of twelve products is one piece of straight code.
 fn taps_of(coefficients: &[i32]) -> [i32; 12]
     requires { ⌜ length (now coefficients) ≤ 12 ⌝ }
-    ensures { λ r. ⌜ r ≡ padded 12 (now (coefficients .entry)) ⌝ }
+    ensures { λ r. ⌜ r ≡ withZeros 12 (now (coefficients .entry)) ⌝ }
 {
     let mut taps = [0i32; 12];
     let mut j = 0;

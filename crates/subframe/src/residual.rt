@@ -1,7 +1,7 @@
 // Samples stored as they are, and the coded residual (RFC 9639 sections 9.2.4 and 9.2.7), each into the part of a channel
 // that it is for. Each answer is that of the definition; where one stops, the part holds anything.
 use super::Decoded;
-use super::answers::Sample;
+use super::answers::SampleRead;
 use error::Refusal;
 use input::Bits;
 use reading::Place;
@@ -14,17 +14,17 @@ ghost use Rattle.reading.specs.Places.{runAt};
 ghost use Rattle.rfc9639.specs.Integers.{sample};
 ghost use Rattle.rfc9639.specs.Residual.{folded as foldedOf, rice, partition, residual};
 ghost use Rattle.subframe.specs.Answers.{means};
-ghost use Rattle.subframe.specs.Private.{sampled};
+ghost use Rattle.subframe.specs.Private.{sampleReadAt};
 
-pub fn read_sample(s: &[u8], at: Place, width: u32) -> Sample
+pub fn read_sample(s: &[u8], at: Place, width: u32) -> SampleRead
     requires { ⌜ width ≤ 32 ⌝ }
-    ensures { λ r. ⌜ sampled r ≡ runAt (sample width) (now (s .entry)) at ⌝ }
+    ensures { λ r. ⌜ sampleReadAt r ≡ runAt (sample width) (now (s .entry)) at ⌝ }
 {
     let read = input::read_bits(s, at, width);
     let Bits::Value(v, p) = read else {
-        return Sample::Short;
+        return SampleRead::Short;
     };
-    Sample::Value(number::low32(signed::sign_extend(v, width)), p)
+    SampleRead::Value(number::low32(signed::sign_extend(v, width)), p)
 }
 
 // As many samples as `out` has (RFC 9639 section 9.2.4).
@@ -40,12 +40,12 @@ pub fn decode_verbatim(s: &[u8], at: Place, width: u32, out: &mut [i32]) -> Deco
     while i < out.len() {
         let read = read_sample(s, p, width);
         match read {
-            Sample::Value(x, q) => {
+            SampleRead::Value(x, q) => {
                 out[i] = x;
                 p = q;
                 i += 1;
             }
-            Sample::Short => {
+            SampleRead::Short => {
                 return Decoded::Refused(Refusal::CutShort);
             }
         }
@@ -62,19 +62,19 @@ fn folded(q: u64, r: u64, k: u32) -> u32
 }
 
 // One residual of Rice parameter k (RFC 9639 section 9.2.7.2).
-fn read_rice(s: &[u8], at: Place, k: u32) -> Sample
+fn read_rice(s: &[u8], at: Place, k: u32) -> SampleRead
     requires { ⌜ k ≤ 31 ⌝ }
-    ensures { λ r. ⌜ sampled r ≡ runAt (rice k) (now (s .entry)) at ⌝ }
+    ensures { λ r. ⌜ sampleReadAt r ≡ runAt (rice k) (now (s .entry)) at ⌝ }
 {
     let high = input::read_unary(s, at);
     let Bits::Value(q, p) = high else {
-        return Sample::Short;
+        return SampleRead::Short;
     };
     let low = input::read_bits(s, p, k);
     let Bits::Value(r, next) = low else {
-        return Sample::Short;
+        return SampleRead::Short;
     };
-    Sample::Value(signed::unfold(folded(q, r, k)), next)
+    SampleRead::Value(signed::unfold(folded(q, r, k)), next)
 }
 
 // As many residuals as `out` has.
@@ -90,12 +90,12 @@ fn decode_rice(s: &[u8], at: Place, k: u32, out: &mut [i32]) -> Decoded
     while i < out.len() {
         let read = read_rice(s, p, k);
         match read {
-            Sample::Value(x, q) => {
+            SampleRead::Value(x, q) => {
                 out[i] = x;
                 p = q;
                 i += 1;
             }
-            Sample::Short => {
+            SampleRead::Short => {
                 return Decoded::Refused(Refusal::CutShort);
             }
         }

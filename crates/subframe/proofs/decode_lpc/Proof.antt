@@ -14,7 +14,7 @@ use Rattle.reading.proofs.Running.{bind-got}
 use Rattle.error.proofs.Passing.{bind-refusal}
 use Rattle.rfc9639.specs.Integers.{sample}
 use Rattle.rfc9639.specs.Subframe.{lpc, quantization, lpcBehind}
-use Rattle.subframe.specs.Private.{Quantization, quantized}
+use Rattle.subframe.specs.Private.{Quantization, quantizerAt}
 use Rattle.subframe.proofs.Lending.{answer-is, front-stops, front-then, first-taken, between-long}
 use Rattle.subframe.proofs.Behind.{quantization-sound}
 use Rattle.subframe.proofs.decode_lpc.Statement.{statement}
@@ -93,7 +93,7 @@ module _ (c : tie.After-read-quantizer) where
 decode-lpc-after-shift-requires : tie.Need-decode-lpc-after-shift-requires
 decode-lpc-after-shift-requires c κs =
     let k = c .before .before in let q = k .before .before in let v = verbatim q in let s = start v in
-    let sound = quantization-sound (s .args .s .now) (place q) (answer-is quantized (q .read-quantizer .ensures) (k .quantizer .given .1)) in
+    let sound = quantization-sound (s .args .s .now) (place q) (answer-is quantizerAt (q .read-quantizer .ensures) (k .quantizer .given .1)) in
     (sound .few, sound .near, s .pre .1, omega (arith, whole v, s .pre .2))
 
 enum-known-quantizer-2 : tie.Need-enum-known-quantizer-2
@@ -109,7 +109,7 @@ returns-2 c =
     r .decode-lpc-after-shift .ensures
     ∙ ap₂ (λ (w : List ℤ) n. runAt (lpcBehind (order v) (k .quantizer .given .0 .0) (k .quantizer .given .0 .1 .0) w n) (s .args .s .now) (k .quantizer .given .0 .1 .1 .0))
     (first-taken (order v) (out v) (s .pre .2) (warm v) (v .decode-verbatim .kept .1 .1 .1 .0) (drop (order v) (out v))) (whole v)
-    ∙ sym (bind-got quantization (s .args .s .now) (place q) (quantized-then v (warm v)) (answer-is quantized (q .read-quantizer .ensures) (k .quantizer .given .1)))
+    ∙ sym (bind-got quantization (s .args .s .now) (place q) (quantized-then v (warm v)) (answer-is quantizerAt (q .read-quantizer .ensures) (k .quantizer .given .1)))
     ∙ onward q
 
 same-length-3 : tie.Need-same-length-3
@@ -121,7 +121,7 @@ returns-3 c =
     let k = c .before in let q = k .before .before in let v = verbatim q in let s = start v in
     sym
     (bind-refusal quantization (s .args .s .now) (place q) (quantized-then v (warm v)) (k .quantizer2 .given .0 .0)
-    (answer-is quantized (q .read-quantizer .ensures) (k .quantizer2 .given .1)))
+    (answer-is quantizerAt (q .read-quantizer .ensures) (k .quantizer2 .given .1)))
     ∙ onward q
 
 pub decode-lpc-spec : {M : Type 1} → statement M
