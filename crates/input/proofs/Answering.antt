@@ -1,4 +1,4 @@
--- What a question gets at a place, with a function over the number: what the loops end with. Assumes nothing.
+-- A function of the number that a question gets at a place. Assumes nothing.
 use Prim.Native.Nat.{ℕ}
 use mathlib.Core.Path.{_≡_, refl, ap}
 use mathlib.Core.Bool.{false}

@@ -1,5 +1,4 @@
--- For callers: what the answers of this crate say of the definition's questions, whose runs on bytes they are, and what
--- the count of the zeros says of the zeros. Assumes nothing.
+-- For callers: what an answer says of the definition's question, and a count of the zeros. Assumes nothing.
 use Prim.Native.Nat.{ℕ, suc, _+_, _*_, _-_, _/_, _%_, _^_, _≤_, _<_}
 use native.Mathlib.Nat.{mod-eq-of-lt, lt-of-lt-of-le}
 use native.Mathlib.Omega.{arith}
@@ -18,7 +17,7 @@ use Rattle.input.specs.declared.Bits.{Bits}
 use Rattle.input.specs.declared.Bits.the-variants.{Value, Short}
 use Rattle.input.specs.Answers.{means, mapAt, low64, count, counted}
 
--- ---- read_bits: a number of at most 64 bits is whole
+-- ---- read_bits: a number of at most 64 bits is exact
 
 whole : (x : At ℕ) → ((v : ℕ) (p : Place) → x ≡ gotAt v p → v < 2 ^ 64) → low64 x ≡ x
 unfolding low64 mapAt
@@ -30,7 +29,7 @@ module _ (n : ℕ) (s : List ℕ) (at : Place) (h : n ≤ 64) where
   pub low64-is : low64 (runAt (bits n) s at) ≡ runAt (bits n) s at
   low64-is = whole (runAt (bits n) s at) (λ v p e. lt-of-lt-of-le (bits-below n s at e) (pow-mono h))
 
-  -- what the call answered, and what a match found of it
+  -- by what the call answered, and what a match found of it
   pub read-is : {r r′ : Bits} → means r ≡ low64 (runAt (bits n) s at) → r ≡ r′ → runAt (bits n) s at ≡ means r′
   read-is e f = sym low64-is ∙ sym e ∙ ap means f
 
@@ -78,7 +77,7 @@ pub count-many : {z : ℕ} → 2 ^ 32 ≤ z → count z ≡ 2 ^ 32 + z % 2 ^ 32
 unfolding count
 count-many h = rw (le-ltb _ _ h)
 
--- fewer, or not: a fact of z and its count that holds both ways
+-- fewer than 2 ^ 32 zeros, or not
 either : (z : ℕ) → ((z < 2 ^ 32) × (count z ≡ z)) ⊎ ((2 ^ 32 ≤ z) × (count z ≡ 2 ^ 32 + z % 2 ^ 32))
 either z = go (ltb z (2 ^ 32)) refl
   where
@@ -92,7 +91,7 @@ count-below z = ⊎-elim (λ h. omega arith) (λ h. omega arith) (either z)
 pub count-low : (z : ℕ) → count z % 2 ^ 32 ≡ z % 2 ^ 32
 count-low z = ⊎-elim (λ h. omega arith) (λ h. omega arith) (either z)
 
--- where it is below 2 ^ 32 it is the zeros
+-- a count below 2 ^ 32 is exact
 pub count-is : (z : ℕ) → count z < 2 ^ 32 → z ≡ count z
 count-is z l = ⊎-elim (λ h. omega arith) (λ h. absurd (omega arith)) (either z)
 
@@ -103,6 +102,6 @@ module _ (z m : ℕ) (l : m < 2 ^ 32) where
   pub at-most-count : z ≤ m → count z ≤ m
   at-most-count h = ⊎-elim (λ k. omega arith) (λ k. omega arith) (either z)
 
--- one zero more
+-- one more zero
 pub count-suc : (z : ℕ) → count z + 1 - (count z + 1) / 2 ^ 33 * 2 ^ 32 ≡ count (suc z)
 count-suc z = ⊎-elim (λ h. ⊎-elim (λ k. omega arith) (λ k. omega arith) (either (suc z))) (λ h. ⊎-elim (λ k. omega arith) (λ k. omega arith) (either (suc z))) (either z)

@@ -1,5 +1,4 @@
--- The loops that read: what is still to be read from here makes the answer. Each turn passes some bits of one byte.
--- Assumes nothing.
+-- The loops of `read_bits` and `read_unary`: each turn reads bits of one byte. Assumes nothing.
 use Prim.Native.Nat.{ℕ, suc, _+_, _*_, _-_, _/_, _%_, _^_, _≤_, _<_}
 use native.Mathlib.Nat.{mod-lt}
 use native.Mathlib.Numerals.{add-one}
@@ -18,18 +17,18 @@ use Rattle.input.proofs.Answering.{told, told-found, told-cut, ask-in}
 use Rattle.input.proofs.Words.{grown}
 use Rattle.input.proofs.Laws.{count-suc, count-few, count-below}
 
--- the place m bits on is one of the input too
+-- the place m bits later is in the input too
 on-in : {s : List ℕ} {p q : Place} (m : ℕ) → In s p → p .byte < length s → p .bit + m ≤ 8 → q ≡ placeOf (position p + m) → In s q
 on-in {s} {p} m i l h e = rw e (record { bit = omega arith; end = omega arith })
 
 on-position : (p : Place) (m : ℕ) {q : Place} → q ≡ placeOf (position p + m) → position q ≡ position p + m
 on-position p m e = ap position e ∙ place-position (position p + m)
 
--- the bits of a byte, of which the code takes m at once
+-- the m bits of a byte that the code takes in one turn
 abbrev pub bitsIn : List ℕ → Place → ℕ → ℕ
 bitsIn s p m = getD s (p .byte) 0 / 2 ^ (8 - (p .bit + m)) % 2 ^ m
 
--- ---- a number, of which `left` bits are still to be read: those before made `all`, and the word `acc` of it
+-- ---- a number with `left` bits still to be read: the bits so far make `all`, and `acc` is its low 64 bits
 pub record Unread (s : List ℕ) (n : ℕ) (p₀ : Place) (left acc : ℕ) (p : Place) : Type 0 where
   pub place : In s p
   pub all : ℕ
@@ -77,7 +76,7 @@ module _ (s : List ℕ) (n : ℕ) (p₀ : Place) (left acc : ℕ) (p : Place) (i
           ((let e : 8 * p .byte + (p .bit + m) ≡ position p + m = omega arith in e) ∙ sym (on-position p m eq)));
     }
 
--- ---- zeros, of which z were passed
+-- ---- zeros, of which `zs` were read
 pub record Passed (s : List ℕ) (p₀ : Place) (c : ℕ) (p : Place) : Type 0 where
   pub place : In s p
   pub zs : ℕ

@@ -1,6 +1,4 @@
--- The definition of a channel in the parts that the functions take (rfc9639, specs/Subframe.antt): a header, then what is behind it;
--- a predictor's warm-up, its precision and shift, then what is behind them. A part that stops, stops the whole. And what
--- a header, and a quantization, can tell. Assumes nothing.
+-- The bounds that a subframe's header, and a precision and shift, keep. Assumes nothing.
 use Prim.Native.Nat.{ℕ, _-_, _^_, _≤_, _<_}
 use native.Mathlib.Omega.{arith}
 use mathlib.Core.Path.{_≡_, refl, subst}
@@ -17,9 +15,9 @@ use Rattle.rfc9639.specs.declared.SubframeHeader.{SubframeHeader}
 use Rattle.rfc9639.specs.Subframe.{subframeType, wastedBits, wastedJudged, kindAndWasted, subframeHeader, quantization}
 use Rattle.subframe.specs.Private.{Orderly}
 
--- ---- what a header can tell
+-- ---- a header: its order and its wasted bits
 
--- the test of the wasted bits, and what it says
+-- the test of the wasted bits
 judged-true : (k width : ℕ) → (leb k 31 && ltb k width) ≡ true → (k ≤ 31) × (k < width)
 judged-true k width e = go (leb k 31) refl e
   where
@@ -36,7 +34,7 @@ pub record HeaderSound (width : ℕ) (h : SubframeHeader) : Type 0 where
 abbrev pub Any : ℕ → Type 0
 Any n = Unit {0}
 
--- what a reader got is what its every value is
+-- what holds of every value that a reader can give holds of the one it gave
 pub got-holds : {A : Type 0} {P : A → Type 0} {p : Ask A} → Holds Any P p → (s : List ℕ) (at : Place) {a : A} {q : Place} → runAt p s at ≡ gotAt a q → P a
 got-holds {P = P} h s at e = subst (Meets Any P) e (holds-at Any P s at h)
 
@@ -69,7 +67,7 @@ holds-header width =
 pub header-sound : (width : ℕ) (s : List ℕ) (at : Place) {h : SubframeHeader} {p : Place} → runAt (subframeHeader width) s at ≡ gotAt h p → HeaderSound width h
 header-sound width s at e = got-holds (holds-header width) s at e
 
--- ---- what a quantization can tell: a precision of 1 to 15 bits, a shift below 16
+-- ---- a precision of 1 to 15 bits, a shift below 16
 
 pub record QuantizationSound (precision shift : ℕ) : Type 0 where
   pub some : 1 ≤ precision

@@ -1,5 +1,4 @@
--- A channel as a whole: a slice that is changed in place, a predictor's block and its coefficients, one sample for all,
--- what is behind a header, and zeros where it stops. Assumes nothing.
+-- A subframe's samples: constant, predicted, shifted by the wasted bits, and zeros on a refusal. Assumes nothing.
 use Prim.Native.Nat.{ℕ, suc, _+_, _-_, _^_, _≤_, _<_}
 use native.Mathlib.Numerals.{add-one}
 use native.Mathlib.Omega.{arith}
@@ -36,7 +35,7 @@ use Rattle.subframe.specs.Private.{sampleReadAt, Predictable, predictedI
 use Rattle.subframe.proofs.Lending.{answer-is, done-is, refused-is, passed-on, bind-done, then-done, rest-put, first-taken, first-dropped}
 use Rattle.subframe.proofs.Behind.{Any, got-holds}
 
--- ---- a slice that is changed in place, each number by f
+-- ---- a slice changed in place, each number by f
 
 pub record Mapped (f : ℤ → ℤ) (l₀ l : List ℤ) (i : ℕ) : Type 0 where
   pub within : i ≤ length l
@@ -59,7 +58,7 @@ module _ {f : ℤ → ℤ} {l₀ l : List ℤ} {i : ℕ} (inv : Mapped f l₀ l 
         ∙ ap (λ n. take n (set l i z) ++ map f (drop n (set l i z))) (sym (add-one i));
   }
 
-  -- as the functions have it: a signed value is handed on by its bits
+  -- the code passes a signed value by its bits
   pub turn : (z : ℤ) → i < length l → z ≡ f (toZ w32 (ofZ w32 (getD l i (pos 0)))) → SFits w32 (getD l i (pos 0)) → SFits w32 z
       → Mapped f l₀ (set l i (toZ w32 (ofZ w32 z))) (i + 1)
   turn z h e g k = rw (toZ-ofZ k) (step z h (e ∙ ap f (toZ-ofZ g)))
@@ -73,14 +72,14 @@ module _ {f : ℤ → ℤ} {l₀ l : List ℤ} {i : ℕ} (inv : Mapped f l₀ l 
 
 -- ---- a predictor's block
 
--- the residual is put after the warm-up samples, and prediction makes the block of both
+-- the block that prediction makes of the warm-up samples and a residual stored after them
 pub predicted-put : (cs : List ℤ) (shift : ℕ) (l rest : List ℤ) → length cs ≤ length l
     → predictedInPlace cs shift (putMid (length cs) (length l - length cs) l rest) ≡ predict cs shift (take (length cs) l) rest
 predicted-put cs shift l rest h =
     ap (predictedInPlace cs shift) (rest-put (length cs) l h rest)
     ∙ ap₂ (λ (a b : List ℤ). predict cs shift a b) (first-taken (length cs) l h (take (length cs) l) refl rest) (first-dropped (length cs) l h (take (length cs) l) refl rest)
 
--- what `decode_predicted` asks and reads, by what its arguments are: the coefficients as they are lent, and the block
+-- what `decode_predicted` requires and reads: T is the slice of the coefficients, L the block
 module _ {T cs : List ℤ} {order : ℕ} (L : List ℤ) (e : T ≡ cs) (row : (length cs ≡ order) × Small (2 ^ 15) cs) where
   pub predictable : order ≤ 32 → order ≤ length L → Predictable 32 T L
   predictable few enough =
@@ -93,7 +92,7 @@ module _ {T cs : List ℤ} {order : ℕ} (L : List ℤ) (e : T ≡ cs) (row : (l
       ∙ ap (λ m. runAt (residual m (length L) >>= (λ r. done (predict cs shift (take m L) r))) s at) (row .0)
       ∙ ap₂ (λ k (w : List ℤ). runAt (residual order k >>= (λ r. done (predict cs shift w r))) s at) size f
 
--- ---- coefficients: as many as the order, and small enough for exact sums
+-- ---- coefficients that were read: as many as the order, and small enough for exact sums
 
 small-every : (xs : List ℤ) → Every (Fits 15) xs → Small (2 ^ 15) xs
 small-every [] h = tt
@@ -120,7 +119,7 @@ module _ (w n : ℕ) (s : List ℕ) (at : Place) {r : SampleRead} (told : sample
   unfolding samples
   constant-done {p = p} e f = ap (λ t. gotAt t p) f ∙ sym (bind-done (sample w) (replicate n) s at (answer-is sampleReadAt told e))
 
--- ---- behind a header
+-- ---- after a header
 
 module _ (n width : ℕ) (h : SubframeHeader) (s : List ℕ) (at : Place) (here : In s at) where
   abbrev body : Ask (List ℤ)
@@ -144,7 +143,7 @@ module _ (n width : ℕ) (h : SubframeHeader) (s : List ℕ) (at : Place) (here 
     pub headed-done : {p : Place} {left : List ℤ} → r ≡ Done p → left ≡ shifted l → gotAt left p ≡ runAt (subframeBehind n width h) s at
     headed-done e f = then-done body shifted s at l told e f ∙ judged enough
 
--- ---- the whole, with zeros where it stops
+-- ---- the whole, with zeros on a refusal
 
 module _ (width n : ℕ) (s : List ℕ) (at : Place) where
   pub too-wide : 32 < width → refusedAt 11 ≡ decodeAt width n s at

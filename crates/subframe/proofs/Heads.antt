@@ -1,5 +1,4 @@
--- A channel's header and a predictor's quantization, question by question: what the definition gets of the bytes, by
--- what the code has read so far. Assumes nothing.
+-- A subframe's header, and a precision and shift, question by question as the code reads them. Assumes nothing.
 use Prim.Native.Nat.{ℕ, _+_, _≤_, _<_}
 use native.Mathlib.Omega.{arith}
 use mathlib.Core.Path.{_≡_, refl, ap, sym, _∙_}
@@ -34,7 +33,7 @@ judged-false-wide k width h = go (leb k 31)
     go true = le-ltb _ _ h
     go false = refl
 
--- what the definition does behind the flag, and behind the count
+-- what the definition does after the flag, and after the count
 
 counted-on : Ask ℕ
 counted-on = zeros >>= (λ z. done (z + 1))
@@ -89,7 +88,7 @@ module _ (width : ℕ) (s : List ℕ) (at : Place) where
       unfolding counted-on
       run-short g = judged-short (set on ∙ bind-short zeros s p _ g)
 
-      -- the code has the count of the zeros, which is right up to 30
+      -- the code's count of the zeros is exact up to 30
       module _ {z c : ℕ} {q : Place} (g : runAt zeros s p ≡ gotAt z q) (o : c ≡ count z) where
         ran : runAt wastedBits s at ≡ gotAt (z + 1) q
         unfolding counted-on

@@ -1,5 +1,4 @@
--- Parts `&mut out[a..e]` of a lent slice that are handed to a decoder and come back, and a decoder's answer that is used
--- or passed on. Assumes nothing.
+-- Parts of a slice that are lent to a decoder, and what the decoder's answer says of the definition. Assumes nothing.
 use Prim.Native.Nat.{ℕ, _-_, _≤_}
 use native.Mathlib.Omega.{arith}
 use mathlib.Core.Path.{_≡_, refl, ap, sym, _∙_}
@@ -34,7 +33,7 @@ module _ {x : At (List ℤ)} {r : Decoded} (l : List ℤ) (told : means r l ≡ 
   pub refused-is : {e : Refusal} → r ≡ Refused e → x ≡ refusedBy e
   refused-is e = answer-is (λ d. means d l) told e
 
--- a refusal is passed on, whatever stands in the slice then
+-- a refusal is returned, whatever the slice holds
 module _ (p : Ask (List ℤ)) (s : List ℕ) (at : Place) (k : List ℤ → Ask (List ℤ)) where
   pub passed-on : {r : Decoded} {e : Refusal} (l : List ℤ) → means r l ≡ runAt p s at → r ≡ Refused e → (left : List ℤ) → means r left ≡ runAt (p >>= k) s at
   passed-on {e = e} l told d left = ap (λ x. means x left) d ∙ sym (bind-refusal p s at k e (refused-is l told d))
@@ -49,7 +48,7 @@ pub then-done : (p : Ask (List ℤ)) (g : List ℤ → List ℤ) (s : List ℕ) 
     → {q : Place} {left : List ℤ} → r ≡ Done q → left ≡ g l → gotAt left q ≡ runAt (p >>= (λ x. done (g x))) s at
 then-done p g s at l told {q} e f = ap (λ t. gotAt t q) f ∙ sym (bind-done p g s at (done-is l told e))
 
--- what was read before goes in front of what a decoder left
+-- what was read before, in front of what a decoder left
 pub behind-refusal : {A : Type 0} (xs : List A) (e : Refusal) → behind xs (refusedBy e) ≡ refusedBy e
 unfolding behind
 behind-refusal {A} xs e = go (eqb (numberOf e) 2)
@@ -63,15 +62,15 @@ unfolding behind
 behind-means xs (Done p) l = refl
 behind-means xs (Refused e) l = behind-refusal xs e
 
--- ---- one part from a to e, v put back into its place
+-- ---- the part from a to e, replaced by v
 
 module _ {A : Type 0} (a e : ℕ) (l : List A) (h : e ≤ length l) where
-  -- the reader of as many as the part has
+  -- a reader of as many as the part has
   pub part-size : {B : Type 0} (p : ℕ → B) → p (length (midOf a (e - a) l)) ≡ p (e - a)
   part-size p = ap p (mid-len a e l h)
 
   module _ (v : List A) (g : a ≤ e) (kept : length v ≡ length (midOf a (e - a) l)) where
-    -- up to its end
+    -- the slice up to the end of the part
     pub part-taken : take e (putMid a (e - a) l v) ≡ take a l ++ v
     part-taken =
         ap (take e) (sym (append-assoc (take a l) v (postOf a (e - a) l)))
@@ -86,7 +85,7 @@ module _ {A : Type 0} (m : ℕ) (l : List A) (h : m ≤ length l) where
   pub rest-put : (w : List A) → putMid m (length l - m) l w ≡ take m l ++ w
   rest-put w = ap (λ (t : List A). take m l ++ t) (ap (λ (t : List A). w ++ t) (post-is m (length l) l h ∙ drop-length l) ∙ append-nil w)
 
--- the first m are lent to a decoder of as many samples as it is lent
+-- the first m are lent to a decoder that reads as many as it is lent
 module _ (f : ℕ → Ask (List ℤ)) (s : List ℕ) (at : Place) (m : ℕ) (l : List ℤ) (h : m ≤ length l) {r : Decoded} (v : List ℤ)
     (told : means r v ≡ runAt (f (length (take m l))) s at) where
   pub front-got : {p : Place} → r ≡ Done p → runAt (f m) s at ≡ gotAt v p
@@ -98,7 +97,7 @@ module _ (f : ℕ → Ask (List ℤ)) (s : List ℕ) (at : Place) (m : ℕ) (l :
   pub front-then : (k : List ℤ → Ask (List ℤ)) {p : Place} → r ≡ Done p → runAt (k v) s p ≡ runAt (f m >>= k) s at
   front-then k e = sym (bind-got (f m) s at k (front-got e))
 
--- both: v in the first m, and then w in the rest
+-- the first m replaced by v, then the rest by w
 module _ {A : Type 0} (m : ℕ) (l : List A) (h : m ≤ length l) (v : List A) (kept : length v ≡ length (take m l)) where
   first-long : length v ≡ m
   first-long = kept ∙ length-take-le m l h

@@ -1,4 +1,4 @@
--- A partition by its parameter, and partitions one after the other into parts of the lent slice. Assumes nothing.
+-- Partitions of a residual: one by its parameter, and all, each into its part of the slice. Assumes nothing.
 use Prim.Native.Nat.{ℕ, suc, _+_, _-_, _*_, _%_, _^_, _≤_, _<_}
 use native.Mathlib.Nat.{mod-eq-of-lt, lt-of-le-of-lt, lt-of-lt-of-le, suc-mul}
 use native.Mathlib.Omega.{arith}
@@ -31,7 +31,7 @@ use Rattle.subframe.proofs.Lending.{done-is, refused-is, behind-refusal
 
 -- ---- a partition
 
--- the code's power is the definition's
+-- the code's power of two is the definition's
 pub parameters : (method : ℕ) → method < 2 → (16 * 2 ^ method) % 2 ^ 64 ≡ 2 ^ (4 + method)
 parameters method h =
     let few : 2 ^ (4 + method) ≤ 2 ^ 5 = pow-mono {i = 4 + method} {j = 5} (omega arith) in
@@ -77,7 +77,7 @@ module _ (f : ℕ → Ask (List ℤ)) (n : ℕ) (ns : List ℕ) (s : List ℕ) (
   first-then {v} h r w g =
       sym (sym (behind-nil (runAt (each f (n ∷ ns)) s at)) ∙ each-step f s [] at n ns h ∙ ap (behind v) (sym g) ∙ behind-means v r w)
 
--- ---- a loop over parts of one size: `left` of them are still to be read, from `start` on
+-- ---- a loop over parts of one size: `left` of them are still to be read, starting at `start`
 
 pub record Parted (f : ℕ → Ask (List ℤ)) (size count : ℕ) (s : List ℕ) (at₀ : Place) (l₀ l : List ℤ) (start left : ℕ) (at : Place) : Type 0 where
   pub place : In s at
@@ -104,7 +104,7 @@ module _ {f : ℕ → Ask (List ℤ)} {size count : ℕ} {s : List ℕ} {at₀ :
         inv .same
         ∙ ap (λ n. behind (take start l) (runAt (each f (replicate n size)) s at)) (let e : left ≡ suc (left - 1) = omega arith in e)
 
-    -- with the part back the slice is as long as it came
+    -- the slice keeps its length
     pub part-back : (v : List ℤ) → length v ≡ length (midOf start part l) → length (putMid start part l v) ≡ length l₀
     part-back v kept = same-len-mid start part l v kept ∙ inv .long
 
@@ -113,7 +113,7 @@ module _ {f : ℕ → Ask (List ℤ)} {size count : ℕ} {s : List ℕ} {at₀ :
         part-size start (start + size) l room (λ n. runAt (f n) s at)
         ∙ ap (λ n. runAt (f n) s at) (let e : start + size - start ≡ size = omega arith in e)
 
-    -- by what the decoder of the part answered and left
+    -- a turn and the way out, by what the decoder of the part answered and left
     module _ {r : Decoded} (v : List ℤ) (told : means r v ≡ runAt (f (length (midOf start part l))) s at) where
       pub step : {q : Place} → r ≡ Done q → length v ≡ length (midOf start part l)
           → Parted f size count s at₀ l₀ (putMid start part l v) (start + size) (left - 1) q

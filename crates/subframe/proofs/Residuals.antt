@@ -1,4 +1,4 @@
--- The head of a residual: its method, its order, and the sizes of its partitions. Assumes nothing.
+-- The start of a residual: its method, its partition order, and the sizes of its partitions. Assumes nothing.
 use Prim.Native.Nat.{ℕ, suc, _+_, _-_, _*_, _/_, _%_, _^_, _≤_, _<_}
 use native.Mathlib.Nat.{one-mul, suc-mul, mul-comm, div-add-mod', mod-eq-of-lt, lt-of-le-of-lt}
 use native.Mathlib.Omega.{arith}
@@ -20,7 +20,7 @@ use Rattle.input.specs.Answers.{means, low64}
 use Rattle.input.proofs.Laws.{read-got, read-short}
 use Rattle.rfc9639.specs.Residual.{partition, partitionSizes, residual}
 
--- the partitions of an order, as the code counts them
+-- the number of partitions of an order, as the code computes it
 abbrev pub partsOf : ℕ → ℕ
 partsOf order = (1 * 2 ^ order) % 2 ^ 64
 
@@ -33,7 +33,7 @@ module _ {order : ℕ} (h : order < 16) where
   pub parts-some : 0 < partsOf order
   parts-some = rw parts-is (pow-pos order)
 
-  -- together with the warm-up they are the block
+  -- together with the warm-up samples they fill the block
   pub sizes-sum : (warm n : ℕ) → n % partsOf order ≡ 0 → warm ≤ n / partsOf order
       → n - warm ≡ n / partsOf order - warm + (partsOf order - 1) * (n / partsOf order)
   sizes-sum warm n e l = omega (arith, whole, less)
@@ -47,7 +47,7 @@ module _ {order : ℕ} (h : order < 16) where
           ∙ ap (λ c. c * (n / partsOf order)) (let d : partsOf order ≡ suc (partsOf order - 1) = omega (arith, parts-some) in d)
           ∙ suc-mul (partsOf order - 1) (n / partsOf order)
 
--- a residual behind its order
+-- a residual after its order
 judged : ℕ → ℕ → ℕ → ℕ → Ask (List ℤ)
 judged warm n method order = do
   require (eqb (n % 2 ^ order) 0) 9
@@ -90,7 +90,7 @@ module _ (warm n : ℕ) (s : List ℕ) (at : Place) {r : Bits} (first : means r 
         c-is : partsOf order ≡ 2 ^ order
         c-is = parts-is order-below
 
-        -- the run from here
+        -- the rest, from this place
         onward : runAt (residual warm n) s at ≡ runAt (judged warm n method order) s next
         unfolding residual judged
         onward = bind-got (bits 2) s at _ got ∙ require-holds 4 _ behind-got (lt-ltb method 2 h) ∙ bind-got (bits 4) s p _ told

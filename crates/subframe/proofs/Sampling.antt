@@ -1,4 +1,4 @@
--- A sample and a residual, by what their questions got. Assumes nothing.
+-- A sample and a Rice-coded residual, by what was read of each. Assumes nothing.
 use Prim.Native.Nat.{ℕ, _+_, _*_, _/_, _%_, _^_, _≤_, _<_}
 use native.Mathlib.Nat.{lt-of-lt-of-le, mul-add-mod-self-right, add-assoc, mul-assoc, mul-comm, add-mul, div-add-mod'}
 use native.Mathlib.Omega.{arith}
@@ -37,7 +37,7 @@ module _ (w : ℕ) (s : List ℕ) (at : Place) (h : w ≤ 32) {r : Bits} (told :
   unfolding sample
   no-sample e = sym (bind-short (bits w) s at (λ v. done (signed w v)) (read-short w s at (omega arith) told e))
 
-  -- a signed value is handed on by its bits
+  -- the code passes a signed value by its bits
   pub sample-got : {v : ℕ} {q : Place} {x z : ℤ} → r ≡ Value v q → x ≡ signExtend w v → SFits w64 x → z ≡ wrapped 32 (toZ w64 (ofZ w64 x)) → SFits w32 z
       → gotAt (toZ w32 (ofZ w32 z)) q ≡ runAt (sample w) s at
   unfolding sample

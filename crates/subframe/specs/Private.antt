@@ -1,5 +1,5 @@
--- What the answers of a channel's private functions mean, in the words of the definition, and what they ask of each other:
--- only contracts of private functions name it, so nobody has to believe it.
+-- What the answers of the private functions mean in the definition, and what these functions ask of each other. Only
+-- contracts of private functions name it, so nobody has to believe it.
 use Prim.Native.Nat.{ℕ, _-_, _^_, _≤_}
 use mathlib.Core.List.{List, _++_}
 use lib.IntN.{ℤ, pos}
@@ -35,16 +35,16 @@ abbrev pub subframeHeaderAt : SubframeHeaderRead → At SubframeHeader
 subframeHeaderAt (SubframeHeaderRead.Header h p) = gotAt h p
 subframeHeaderAt (SubframeHeaderRead.Refused e) = refusedBy e
 
--- ---- what is behind it
+-- ---- what follows it
 
--- the orders that a header can tell
+-- the orders that a header can state
 abbrev pub Orderly : SubframeType → Type 0
 Orderly Constant = Unit {0}
 Orderly Verbatim = Unit {0}
 Orderly (Fixed k) = k ≤ 4
 Orderly (Lpc k) = k ≤ 32
 
--- ---- linear prediction
+-- ---- the precision and the shift
 
 -- a precision in bits, and a shift
 abbrev pub Quantization : Type 0
@@ -54,7 +54,7 @@ abbrev pub quantizerAt : QuantizerRead → At Quantization
 quantizerAt (QuantizerRead.Known precision shift p) = gotAt (precision, shift) p
 quantizerAt (QuantizerRead.Refused e) = refusedBy e
 
--- with zeros behind them, n in all
+-- padded with zeros to n
 abbrev pub withZeros : ℕ → List ℤ → List ℤ
 withZeros n xs = xs ++ replicate (n - length xs) (pos 0)
 
@@ -66,20 +66,20 @@ sampleReadAt Short = shortAt
 
 -- ---- prediction
 
--- at most `most` coefficients, no more than the block has samples, and small enough for exact sums
+-- at most `most` coefficients, no more than the block has samples, each small enough for exact sums
 abbrev pub Predictable : ℕ → List ℤ → List ℤ → Type 0
 Predictable most coefficients block = (length coefficients ≤ most) × (length coefficients ≤ length block) × Small (2 ^ 15) coefficients
 
--- a block that holds its warm-up samples and its residual, with the samples in the residual's place
+-- a block that holds its warm-up samples and its residual, with the residual replaced by the samples
 abbrev pub predictedInPlace : List ℤ → ℕ → List ℤ → List ℤ
 predictedInPlace coefficients shift block = predict coefficients shift (take (length coefficients) block) (drop (length coefficients) block)
 
--- what follows the coefficients of a block that starts with its warm-up samples
+-- what follows the coefficients, for a block that starts with its warm-up samples
 abbrev pub predictedBlock : List ℤ → ℕ → List ℤ → Ask (List ℤ)
 predictedBlock coefficients shift block = do
   res ← residual (length coefficients) (length block)
   done (predict coefficients shift (take (length coefficients) block) res)
 
--- the same from the coefficients on
+-- what follows the shift, for the same block
 abbrev pub lpcBlock : ℕ → ℕ → ℕ → List ℤ → Ask (List ℤ)
 lpcBlock order precision shift block = lpcBehind order precision shift (take order block) (length block)

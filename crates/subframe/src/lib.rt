@@ -1,5 +1,5 @@
-// One channel of a block (RFC 9639 section 9.2): claxon's subframe.rs. `decode` answers on every argument, and leaves the
-// samples of the definition in the lent part, or zeros where it stops.
+// One channel of a block (RFC 9639 section 9.2), after claxon's subframe.rs. `decode` answers on every argument. It
+// leaves the samples of the definition in the caller's slice, or zeros where it refuses.
 mod answers;
 mod header;
 mod predict;
@@ -31,7 +31,7 @@ ghost use Rattle.rfc9639.specs.Integers.{shiftUp};
 ghost use Rattle.subframe.specs.Answers.{means, Left, decodeAt};
 ghost use Rattle.subframe.specs.Private.{Orderly, Predictable, predictedBlock, lpcBlock};
 
-// The place behind what was decoded, or why it stopped.
+// The place after what was decoded, or why it stopped.
 pub enum Decoded {
     Done(Place),
     Refused(Refusal),
@@ -49,8 +49,8 @@ fn decode_constant(s: &[u8], at: Place, width: u32, out: &mut [i32]) -> Decoded
     Decoded::Done(p)
 }
 
-// What follows the warm-up samples and the coefficients (RFC 9639 sections 9.2.5 and 9.2.6): the residual into the rest of
-// the block, then prediction in place.
+// What follows the warm-up samples and the coefficients (RFC 9639 sections 9.2.5 and 9.2.6): the residual into the rest
+// of the block, then prediction in place.
 fn decode_predicted(
     s: &[u8],
     at: Place,
@@ -104,7 +104,7 @@ fn decode_lpc_after_shift(
     decode_predicted(s, p, &coefficients[..order], shift, out)
 }
 
-// RFC 9639 section 9.2.6: the warm-up samples, the precision and the shift, and what is behind them.
+// RFC 9639 section 9.2.6: the warm-up samples, the precision and the shift, and the rest.
 fn decode_lpc(s: &[u8], at: Place, width: u32, order: usize, out: &mut [i32]) -> Decoded
     requires { ⌜ (width ≤ 32) × (order ≤ 32) × (order ≤ length (now out)) ⌝ }
     ensures { λ r. ⌜ means r (now (out .exit)) ≡ runAt (lpc order width (length (now (out .entry)))) (now (s .entry)) at ⌝ }
@@ -127,7 +127,7 @@ fn decode_lpc(s: &[u8], at: Place, width: u32, order: usize, out: &mut [i32]) ->
     }
 }
 
-// The samples of a channel by its kind, in the bits that are not wasted.
+// The samples of a subframe by its type, `width` bits each: the wasted bits are not stored.
 fn decode_kind(s: &[u8], at: Place, kind: SubframeType, width: u32, out: &mut [i32]) -> Decoded
     requires { ⌜ (width ≤ 32) × Orderly kind × (orderOf kind ≤ length (now out)) ⌝ }
     ensures { λ r. ⌜ means r (now (out .exit)) ≡ runAt (samples kind width (length (now (out .entry)))) (now (s .entry)) at ⌝ }
@@ -140,7 +140,7 @@ fn decode_kind(s: &[u8], at: Place, kind: SubframeType, width: u32, out: &mut [i
     }
 }
 
-// The wasted bits back, as zeros (RFC 9639 section 9.2.2).
+// Puts the wasted bits back, as zeros (RFC 9639 section 9.2.2).
 fn shift_all(out: &mut [i32], wasted: u32)
     ensures { λ r. ⌜ now (out .exit) ≡ map (shiftUp wasted) (now (out .entry)) ⌝ }
 {
@@ -151,7 +151,7 @@ fn shift_all(out: &mut [i32], wasted: u32)
     }
 }
 
-// What is behind a subframe's header.
+// What follows a subframe's header.
 fn decode_after_header(
     s: &[u8],
     at: Place,
@@ -178,7 +178,7 @@ fn decode_after_header(
     Decoded::Done(p)
 }
 
-// A header and what is behind it. A width over 32 is no channel's, and is refused as an argument.
+// A header and what follows it. No channel has samples of more than 32 bits, so such a width is a bad argument.
 fn decode_subframe(s: &[u8], at: Place, width: u32, out: &mut [i32]) -> Decoded
     ensures { λ r. ⌜ means r (now (out .exit)) ≡ decodeAt width (length (now (out .entry))) (now (s .entry)) at ⌝ }
 {
@@ -192,7 +192,7 @@ fn decode_subframe(s: &[u8], at: Place, width: u32, out: &mut [i32]) -> Decoded
     }
 }
 
-// One channel of as many samples as `out` has, of `width` bits each. Where it stops, `out` is zeros.
+// One channel, of as many samples as `out` has, `width` bits each. On a refusal `out` is filled with zeros.
 pub fn decode(s: &[u8], at: Place, width: u32, out: &mut [i32]) -> Decoded
     ensures { λ r. ⌜ Left (decodeAt width (length (now (out .entry))) (now (s .entry)) at) (length (now (out .entry))) r (now (out .exit)) ⌝ }
 {

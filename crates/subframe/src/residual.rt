@@ -1,5 +1,5 @@
-// Samples stored as they are, and the coded residual (RFC 9639 sections 9.2.4 and 9.2.7), each into the part of a channel
-// that it is for. Each answer is that of the definition; where one stops, the part holds anything.
+// Samples stored as they are, and the coded residual (RFC 9639 sections 9.2.4 and 9.2.7). Each decoder fills the slice
+// that it is lent and answers what the definition reads. On a refusal the slice may hold anything.
 use super::Decoded;
 use super::answers::SampleRead;
 use error::Refusal;
@@ -53,7 +53,7 @@ pub fn decode_verbatim(s: &[u8], at: Place, width: u32, out: &mut [i32]) -> Deco
     Decoded::Done(p)
 }
 
-// The quotient and the remainder of k bits as one number, of which 32 bits are kept.
+// The low 32 bits of the number with this quotient and this remainder of k bits.
 fn folded(q: u64, r: u64, k: u32) -> u32
     requires { ⌜ (q < 2 ^ 33) × (k ≤ 31) × (r < 2 ^ k) ⌝ }
     ensures { λ n. ⌜ n ≡ foldedOf k q r ⌝ }
@@ -103,7 +103,7 @@ fn decode_rice(s: &[u8], at: Place, k: u32, out: &mut [i32]) -> Decoded
     Decoded::Done(p)
 }
 
-// A partition (RFC 9639 section 9.2.7). Its last parameter, residuals stored as they are, is not done.
+// A partition (RFC 9639 section 9.2.7). The last parameter means residuals stored as they are, which is not supported.
 fn decode_partition(s: &[u8], at: Place, method: u32, out: &mut [i32]) -> Decoded
     requires { ⌜ method < 2 ⌝ }
     ensures { λ r. ⌜ means r (now (out .exit)) ≡ runAt (partition method (length (now (out .entry)))) (now (s .entry)) at ⌝ }
@@ -118,7 +118,7 @@ fn decode_partition(s: &[u8], at: Place, method: u32, out: &mut [i32]) -> Decode
     decode_rice(s, p, k as u32, out)
 }
 
-// `count` partitions of `size` residuals each: as many as `out` has.
+// `count` partitions of `size` residuals each, which fill `out`.
 fn decode_equal_partitions(
     s: &[u8],
     at: Place,
@@ -153,7 +153,7 @@ fn decode_equal_partitions(
     Decoded::Done(p)
 }
 
-// All partitions: the first is shorter by the warm-up.
+// All partitions. The first has fewer residuals, by the number of warm-up samples.
 fn decode_partitions(
     s: &[u8],
     at: Place,
@@ -174,7 +174,7 @@ fn decode_partitions(
     decode_equal_partitions(s, p, method, size, count, &mut out[first..])
 }
 
-// The residual behind `warm` samples of a block of n (RFC 9639 section 9.2.7).
+// The residual of a block of n samples after `warm` warm-up samples (RFC 9639 section 9.2.7).
 pub fn decode_residual(s: &[u8], at: Place, warm: usize, n: usize, out: &mut [i32]) -> Decoded
     requires { ⌜ (warm ≤ n) × (length (now out) ≡ n - warm) ⌝ }
     ensures { λ r. ⌜ means r (now (out .exit)) ≡ runAt (residual warm n) (now (s .entry)) at ⌝ }

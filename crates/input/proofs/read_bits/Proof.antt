@@ -1,5 +1,4 @@
--- The word that the loop makes is the last 64 bits of what the question gets. The invariant (Unread): what is still to
--- be read from here makes the answer. Assumes nothing.
+-- `read_bits`: the bits that are still to be read complete the answer (Unread). Assumes nothing.
 use native.Mathlib.Omega.{arith}
 use mathlib.Core.Path.{sym}
 use borrow.Author.Needs.{needs}

@@ -1,4 +1,4 @@
--- The order is judged, the kind's samples are read, and the wasted bits put back. Assumes nothing.
+-- `decode_after_header`: the order checked, the samples by their kind, the wasted bits put back. Assumes nothing.
 use native.Mathlib.Omega.{arith}
 use mathlib.Core.Path.{sym}
 use borrow.Author.Needs.{needs}

@@ -1,4 +1,4 @@
--- A fixed predictor: the warm-up samples into the front of the block, then the rest by the row of coefficients. Assumes nothing.
+-- `decode_fixed`: the warm-up samples, then prediction by known coefficients. Assumes nothing.
 use Prim.Native.Nat.{ℕ}
 use native.Mathlib.Omega.{arith}
 use mathlib.Core.Path.{_≡_, sym, _∙_}
@@ -36,7 +36,7 @@ enum-told c = search needs
 same-length : tie.Need-same-length
 same-length c = search needs
 
--- what the warm-up left
+-- after the warm-up samples
 module _ (c : tie.After-decode-verbatim) where
   abbrev start : tie.Start
   start = c .before .before .before

@@ -1,4 +1,4 @@
--- The warm-up into the first part, and what is behind the precision and the shift over the whole. Assumes nothing.
+-- `decode_lpc`: the warm-up samples, the precision and the shift, then the rest. Assumes nothing.
 use Prim.Native.Nat.{ℕ}
 use native.Mathlib.Omega.{arith}
 use mathlib.Core.Path.{_≡_, ap₂, sym, _∙_}
@@ -38,7 +38,7 @@ enum-told c = search needs
 same-length : tie.Need-same-length
 same-length c = search needs
 
--- what the warm-up left
+-- after the warm-up samples
 module _ (c : tie.After-decode-verbatim) where
   abbrev start : tie.Start
   start = c .before .before .before
@@ -76,7 +76,7 @@ read-quantizer-requires c κs = search needs
 enum-known-quantizer : tie.Need-enum-known-quantizer
 enum-known-quantizer c = search needs
 
--- where the warm-up ended
+-- the place after the warm-up samples
 module _ (c : tie.After-read-quantizer) where
   abbrev verbatim : tie.After-decode-verbatim
   verbatim = c .before .before .before .before .before

@@ -1,4 +1,4 @@
--- A linear predictor after its shift: the coefficients into an array of their own, then the block. Assumes nothing.
+-- `decode_lpc_after_shift`: the coefficients into an array, then prediction by them. Assumes nothing.
 use Prim.Native.Nat.{ℕ, _^_, _≤_}
 use native.Mathlib.Omega.{arith}
 use mathlib.Core.Path.{_≡_, refl, sym, _∙_}
@@ -18,7 +18,7 @@ use Rattle.subframe.proofs.Channels.{predictable, predicted-block, read
 use Rattle.subframe.proofs.decode_lpc_after_shift.Statement.{statement}
 use Rattle.subframe.proofs.decode_lpc_after_shift.Tie as tie
 
--- the array that the coefficients are put into
+-- the array for the coefficients
 abbrev room : List ℤ
 room = replicate 32 (pos 0)
 
@@ -57,7 +57,7 @@ module _ (c : tie.After-decode-verbatim) where
   abbrev coefficients : List ℤ
   coefficients = c .decode-verbatim .last .1 .1 .1 .0
 
-  -- the array holds them in front
+  -- the array starts with them
   front : take order (coefficients ++ drop order room) ≡ coefficients
   front = first-taken order room (start .pre .2) coefficients (c .decode-verbatim .kept .1 .1 .1 .0) (drop order room)
 

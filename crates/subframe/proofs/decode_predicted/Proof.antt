@@ -1,4 +1,4 @@
--- Prediction after the coefficients: the residual into the rest of the block, and the samples from both. Assumes nothing.
+-- `decode_predicted`: the residual into the rest of the block, then prediction in place. Assumes nothing.
 use mathlib.Core.Path.{_∙_}
 use mathlib.Core.List.{List}
 use borrow.Author.Needs.{needs}
@@ -36,7 +36,7 @@ enum-told c = search needs
 same-length : tie.Need-same-length
 same-length c = search needs
 
--- the residual's reader, and the block that its residual makes
+-- the reader of the residual, and the block that a residual gives
 module _ (c : tie.After-decode-residual) where
   abbrev start : tie.Start
   start = c .before .before .before

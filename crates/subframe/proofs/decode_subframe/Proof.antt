@@ -1,4 +1,4 @@
--- A header, and what is behind it, for a width of at most 32. Assumes nothing.
+-- `decode_subframe`: a header and what follows it, for a width of at most 32. Assumes nothing.
 use native.Mathlib.Omega.{arith}
 use mathlib.Core.Path.{sym, _∙_}
 use borrow.Author.Needs.{needs}

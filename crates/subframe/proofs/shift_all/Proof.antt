@@ -1,4 +1,4 @@
--- Each number is shifted, in its turn (Mapped). Assumes nothing.
+-- `shift_all`: each turn shifts one number (Mapped). Assumes nothing.
 use Prim.Native.Nat.{_-_}
 use native.Mathlib.Omega.{arith}
 use borrow.Author.Needs.{needs}

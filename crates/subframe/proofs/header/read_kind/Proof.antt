@@ -1,4 +1,4 @@
--- The type and the wasted bits, as the definition reads them. Assumes nothing.
+-- `read_kind`: the type and the wasted bits, as the definition reads them. Assumes nothing.
 use borrow.Author.Needs.{needs}
 use mathlib.Core.Path.{_≡_, sym, ap, _∙_}
 use Rattle.reading.specs.Reading.{bits}

@@ -1,4 +1,4 @@
--- `dot12` meets its contract. The loop's invariant (Dotted): j products are summed up, and so many are small. Assumes nothing.
+-- `dot12`: after j turns the sum of j products, which is small enough (Dotted). Assumes nothing.
 use Prim.Native.Nat.{_-_}
 use native.Mathlib.Omega.{arith}
 use mathlib.Core.Path.{refl}

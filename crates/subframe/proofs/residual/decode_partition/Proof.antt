@@ -1,4 +1,4 @@
--- The parameter, then the residuals that it codes, or a refusal. Assumes nothing.
+-- `decode_partition`: the parameter, then the residuals coded with it, or a refusal. Assumes nothing.
 use native.Mathlib.Omega.{arith}
 use borrow.Author.Needs.{needs}
 use lib.Pow.{pow-pos}

@@ -1,4 +1,4 @@
--- The first part is lent, then the rest: what both leave is the whole. Assumes nothing.
+-- `decode_partitions`: the first partition, then the others, each into its part of the slice. Assumes nothing.
 use Prim.Native.Nat.{_-_}
 use native.Mathlib.Omega.{arith}
 use mathlib.Core.Path.{ap, sym, _∙_}

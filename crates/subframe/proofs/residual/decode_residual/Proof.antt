@@ -1,4 +1,4 @@
--- The residual's head, its shape judged, and its partitions. Assumes nothing.
+-- `decode_residual`: the method and the order, the partition size checked, and the partitions. Assumes nothing.
 use Prim.Native.Nat.{_<_}
 use native.Mathlib.Omega.{arith}
 use mathlib.Core.Path.{_∙_}
@@ -37,7 +37,7 @@ returns-3 c =
     let a = b .before .before .before in
     no-order _ _ _ _ (a .before .before .read-bits .ensures) (a .first .given .1) (b .before .if1 .left) (b .read-bits2 .ensures) (c .enum-told2 .given .1)
 
--- the order is of four bits
+-- the order has four bits
 below : (c : tie.After-known-told2) → c .before .second .given .0 .0 < 16
 below c =
     let b = c .before .before .before in
