@@ -18,8 +18,8 @@ use Rattle.subframe.specs.Private.{Orderly}
 -- ---- a header: its order and its wasted bits
 
 -- the test of the wasted bits
-judged-true : (k width : ℕ) → (leb k 31 && ltb k width) ≡ true → (k ≤ 31) × (k < width)
-judged-true k width e = go (leb k 31) refl e
+wasted-test-true : (k width : ℕ) → (leb k 31 && ltb k width) ≡ true → (k ≤ 31) × (k < width)
+wasted-test-true k width e = go (leb k 31) refl e
   where
     go : (b : Bool) → leb k 31 ≡ b → (b && ltb k width) ≡ true → (k ≤ 31) × (k < width)
     go true f g = (leb-true _ _ f, ltb-true _ _ g)
@@ -51,9 +51,9 @@ holds-wasted : Holds Any (λ k. Unit {0}) wastedBits
 unfolding wastedBits
 holds-wasted = holds-bind _ (holds-bits 1) (λ v _. holds-if (eqb v 0) (λ _. value tt) (λ _. holds-bind _ holds-zeros (λ z _. value tt)))
 
-holds-judged : (width : ℕ) → Holds Any (λ k. (k ≤ 31) × (k < width)) (wastedJudged width)
+holds-checked : (width : ℕ) → Holds Any (λ k. (k ≤ 31) × (k < width)) (wastedJudged width)
 unfolding wastedJudged
-holds-judged width = holds-bind _ holds-wasted (λ k _. holds-bind _ (holds-require _ 9 tt) (λ _ t. value {a = k} (judged-true k width t)))
+holds-checked width = holds-bind _ holds-wasted (λ k _. holds-bind _ (holds-require _ 9 tt) (λ _ t. value {a = k} (wasted-test-true k width t)))
 
 holds-header : (width : ℕ) → Holds Any (HeaderSound width) (subframeHeader width)
 unfolding subframeHeader kindAndWasted
@@ -62,7 +62,7 @@ holds-header width =
     (λ v _. holds-bind _ (holds-require _ 4 tt)
     (λ _ _. holds-bind _ (holds-bits 6)
     (λ code l. holds-bind _ (holds-type code l)
-    (λ kind o. holds-bind _ (holds-judged width) (λ k j. value (record { orderly = o; few = j .0; narrow = j .1 }))))))
+    (λ kind o. holds-bind _ (holds-checked width) (λ k j. value (record { orderly = o; few = j .0; narrow = j .1 }))))))
 
 pub header-sound : (width : ℕ) (s : List ℕ) (at : Place) {h : SubframeHeader} {p : Place} → runAt (subframeHeader width) s at ≡ gotAt h p → HeaderSound width h
 header-sound width s at e = got-holds (holds-header width) s at e

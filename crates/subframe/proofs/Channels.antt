@@ -110,14 +110,14 @@ read-row precision order h s at {cs} got =
 
 -- ---- one sample for all
 
-module _ (w n : ℕ) (s : List ℕ) (at : Place) {r : SampleRead} (told : sampleReadAt r ≡ runAt (sample w) s at) where
+module _ (w n : ℕ) (s : List ℕ) (at : Place) {r : SampleRead} (says : sampleReadAt r ≡ runAt (sample w) s at) where
   pub constant-short : r ≡ Short → shortAt ≡ runAt (samples Constant w n) s at
   unfolding samples
-  constant-short e = sym (bind-short (sample w) s at (λ x. done (replicate n x)) (answer-is sampleReadAt told e))
+  constant-short e = sym (bind-short (sample w) s at (λ x. done (replicate n x)) (answer-is sampleReadAt says e))
 
   pub constant-done : {x : ℤ} {p : Place} {l : List ℤ} → r ≡ Value x p → l ≡ replicate n x → gotAt l p ≡ runAt (samples Constant w n) s at
   unfolding samples
-  constant-done {p = p} e f = ap (λ t. gotAt t p) f ∙ sym (bind-done (sample w) (replicate n) s at (answer-is sampleReadAt told e))
+  constant-done {p = p} e f = ap (λ t. gotAt t p) f ∙ sym (bind-done (sample w) (replicate n) s at (answer-is sampleReadAt says e))
 
 -- ---- after a header
 
@@ -132,16 +132,16 @@ module _ (n width : ℕ) (h : SubframeHeader) (s : List ℕ) (at : Place) (here 
   unfolding subframeBehind
   headed-short l = sym (require-fails 9 (λ _. body >>= (λ xs. done (shifted xs))) here (lt-leb _ _ l))
 
-  judged : orderOf (h .kind) ≤ n → runAt (body >>= (λ xs. done (shifted xs))) s at ≡ runAt (subframeBehind n width h) s at
+  order-enough : orderOf (h .kind) ≤ n → runAt (body >>= (λ xs. done (shifted xs))) s at ≡ runAt (subframeBehind n width h) s at
   unfolding subframeBehind
-  judged enough = sym (require-holds 9 (λ _. body >>= (λ xs. done (shifted xs))) here (le-leb _ _ enough))
+  order-enough enough = sym (require-holds 9 (λ _. body >>= (λ xs. done (shifted xs))) here (le-leb _ _ enough))
 
-  module _ (enough : orderOf (h .kind) ≤ n) {r : Decoded} (l : List ℤ) (told : means r l ≡ runAt body s at) where
+  module _ (enough : orderOf (h .kind) ≤ n) {r : Decoded} (l : List ℤ) (says : means r l ≡ runAt body s at) where
     pub headed-refused : {e : Refusal} → r ≡ Refused e → (left : List ℤ) → means r left ≡ runAt (subframeBehind n width h) s at
-    headed-refused e left = passed-on body s at (λ xs. done (shifted xs)) l told e left ∙ judged enough
+    headed-refused e left = passed-on body s at (λ xs. done (shifted xs)) l says e left ∙ order-enough enough
 
     pub headed-done : {p : Place} {left : List ℤ} → r ≡ Done p → left ≡ shifted l → gotAt left p ≡ runAt (subframeBehind n width h) s at
-    headed-done e f = then-done body shifted s at l told e f ∙ judged enough
+    headed-done e f = then-done body shifted s at l says e f ∙ order-enough enough
 
 -- ---- the whole, with zeros on a refusal
 
@@ -154,12 +154,12 @@ module _ (width n : ℕ) (s : List ℕ) (at : Place) where
   unfolding decodeAt
   not-wide h = rw (le-leb width 32 h)
 
-module _ {x : At (List ℤ)} (n : ℕ) {r : Decoded} (l : List ℤ) (told : means r l ≡ x) where
+module _ {x : At (List ℤ)} (n : ℕ) {r : Decoded} (l : List ℤ) (says : means r l ≡ x) where
   pub left-done : {p : Place} → r ≡ Done p → Left x n (Done p) l
-  left-done e = record { answer = sym (done-is l told e); stopped = tt }
+  left-done e = record { answer = sym (done-is l says e); stopped = tt }
 
   pub left-refused : {e : Refusal} {left : List ℤ} → r ≡ Refused e → left ≡ replicate n (pos 0) → Left x n r left
   left-refused {e} {left} f z = record {
-    answer = ap (λ d. means d left) f ∙ sym (refused-is l told f);
+    answer = ap (λ d. means d left) f ∙ sym (refused-is l says f);
     stopped = subst (λ d. cleared d n left) (sym f) z;
   }

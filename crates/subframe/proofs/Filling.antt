@@ -51,12 +51,12 @@ module _ {p : Ask ℤ} {s : List ℕ} {at₀ : Place} {l₀ l : List ℤ} {i : �
   }
 
   -- a turn and the way out, by what the reader's function answered; the code stores a signed value by its bits
-  module _ {r : SampleRead} (told : sampleReadAt r ≡ runAt p s at) where
+  module _ {r : SampleRead} (says : sampleReadAt r ≡ runAt p s at) where
     pub step : {z : ℤ} {q : Place} → r ≡ Value z q → SFits w32 z → i < length l → Filling p s at₀ l₀ (set l i (toZ w32 (ofZ w32 z))) (i + 1) q
-    step e f h = rw (toZ-ofZ f) (filled h (answer-is sampleReadAt told e))
+    step e f h = rw (toZ-ofZ f) (filled h (answer-is sampleReadAt says e))
 
     pub cut : r ≡ Short → i < length l → shortAt ≡ runAt (many (length l₀) p) s at₀
-    cut e h = sym (next h ∙ many-short p s (take i l) at (length l₀ - (i + 1)) (answer-is sampleReadAt told e))
+    cut e h = sym (next h ∙ many-short p s (take i l) at (length l₀ - (i + 1)) (answer-is sampleReadAt says e))
 
   pub end : length l ≤ i → gotAt l at ≡ runAt (many (length l₀) p) s at₀
   end h =

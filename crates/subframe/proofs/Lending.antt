@@ -24,19 +24,19 @@ use Rattle.subframe.specs.Answers.{means}
 
 -- what a function answered, by what a match found of it
 pub answer-is : {A B : Type 0} (f : A → B) {x : B} {r r′ : A} → f r ≡ x → r ≡ r′ → x ≡ f r′
-answer-is f told e = sym told ∙ ap f e
+answer-is f says e = sym says ∙ ap f e
 
-module _ {x : At (List ℤ)} {r : Decoded} (l : List ℤ) (told : means r l ≡ x) where
+module _ {x : At (List ℤ)} {r : Decoded} (l : List ℤ) (says : means r l ≡ x) where
   pub done-is : {p : Place} → r ≡ Done p → x ≡ gotAt l p
-  done-is e = answer-is (λ d. means d l) told e
+  done-is e = answer-is (λ d. means d l) says e
 
   pub refused-is : {e : Refusal} → r ≡ Refused e → x ≡ refusedBy e
-  refused-is e = answer-is (λ d. means d l) told e
+  refused-is e = answer-is (λ d. means d l) says e
 
 -- a refusal is returned, whatever the slice holds
 module _ (p : Ask (List ℤ)) (s : List ℕ) (at : Place) (k : List ℤ → Ask (List ℤ)) where
   pub passed-on : {r : Decoded} {e : Refusal} (l : List ℤ) → means r l ≡ runAt p s at → r ≡ Refused e → (left : List ℤ) → means r left ≡ runAt (p >>= k) s at
-  passed-on {e = e} l told d left = ap (λ x. means x left) d ∙ sym (bind-refusal p s at k e (refused-is l told d))
+  passed-on {e = e} l says d left = ap (λ x. means x left) d ∙ sym (bind-refusal p s at k e (refused-is l says d))
 
 -- a reader, then a function of what it got
 pub bind-done : {A B : Type 0} (p : Ask A) (g : A → B) (s : List ℕ) (at : Place) {a : A} {at′ : Place} → runAt p s at ≡ gotAt a at′
@@ -46,7 +46,7 @@ bind-done p g s at {a} e = bind-got p s at (λ x. done (g x)) e ∙ runAt-done (
 -- a decoder, then a function of the samples that it left
 pub then-done : (p : Ask (List ℤ)) (g : List ℤ → List ℤ) (s : List ℕ) (at : Place) {r : Decoded} (l : List ℤ) → means r l ≡ runAt p s at
     → {q : Place} {left : List ℤ} → r ≡ Done q → left ≡ g l → gotAt left q ≡ runAt (p >>= (λ x. done (g x))) s at
-then-done p g s at l told {q} e f = ap (λ t. gotAt t q) f ∙ sym (bind-done p g s at (done-is l told e))
+then-done p g s at l says {q} e f = ap (λ t. gotAt t q) f ∙ sym (bind-done p g s at (done-is l says e))
 
 -- what was read before, in front of what a decoder left
 pub behind-refusal : {A : Type 0} (xs : List A) (e : Refusal) → behind xs (refusedBy e) ≡ refusedBy e
@@ -87,12 +87,12 @@ module _ {A : Type 0} (m : ℕ) (l : List A) (h : m ≤ length l) where
 
 -- the first m are lent to a decoder that reads as many as it is lent
 module _ (f : ℕ → Ask (List ℤ)) (s : List ℕ) (at : Place) (m : ℕ) (l : List ℤ) (h : m ≤ length l) {r : Decoded} (v : List ℤ)
-    (told : means r v ≡ runAt (f (length (take m l))) s at) where
+    (says : means r v ≡ runAt (f (length (take m l))) s at) where
   pub front-got : {p : Place} → r ≡ Done p → runAt (f m) s at ≡ gotAt v p
-  front-got e = sym (first-size m l h (λ n. runAt (f n) s at)) ∙ done-is v told e
+  front-got e = sym (first-size m l h (λ n. runAt (f n) s at)) ∙ done-is v says e
 
   pub front-stops : (k : List ℤ → Ask (List ℤ)) {e : Refusal} → r ≡ Refused e → (left : List ℤ) → means r left ≡ runAt (f m >>= k) s at
-  front-stops k d left = passed-on (f m) s at k v (told ∙ first-size m l h (λ n. runAt (f n) s at)) d left
+  front-stops k d left = passed-on (f m) s at k v (says ∙ first-size m l h (λ n. runAt (f n) s at)) d left
 
   pub front-then : (k : List ℤ → Ask (List ℤ)) {p : Place} → r ≡ Done p → runAt (k v) s p ≡ runAt (f m >>= k) s at
   front-then k e = sym (bind-got (f m) s at k (front-got e))
@@ -108,14 +108,14 @@ module _ {A : Type 0} (m : ℕ) (l : List A) (h : m ≤ length l) (v : List A) (
   pub first-dropped : (w : List A) → drop m (v ++ w) ≡ w
   first-dropped w = drop-at v w m first-long
 
-  abbrev between : List A
-  between = v ++ drop m l
+  abbrev frontReplaced : List A
+  frontReplaced = v ++ drop m l
 
-  pub between-long : length between ≡ length l
+  pub between-long : length frontReplaced ≡ length l
   between-long = length-front l v m kept
 
-  within : m ≤ length between
+  within : m ≤ length frontReplaced
   within = omega (arith, between-long)
 
-  pub both-put : (w : List A) → putMid m (length between - m) between w ≡ v ++ w
-  both-put w = rest-put m between within w ∙ ap (λ (t : List A). t ++ w) (first-taken (drop m l))
+  pub both-put : (w : List A) → putMid m (length frontReplaced - m) frontReplaced w ≡ v ++ w
+  both-put w = rest-put m frontReplaced within w ∙ ap (λ (t : List A). t ++ w) (first-taken (drop m l))

@@ -90,8 +90,8 @@ module _ (cs before : List ℤ) {acc j : ℕ} (inv : Dotted cs (reverse before) 
   enough : length cs ≤ length (reverse before)
   enough = omega (arith, length-reverse before)
 
-  pub asks : (natAbs (toZ w64 acc) < 2 ^ 62) × (natAbs (toZ w32 (ofZ w32 (getD cs j (pos 0)))) < 2 ^ 15)
-  asks = (room inv (fit .0), rw (toZ-ofZ c) (coefficient inv (fit .0) enough (fit .2) l))
+  pub mul-add-asks : (natAbs (toZ w64 acc) < 2 ^ 62) × (natAbs (toZ w32 (ofZ w32 (getD cs j (pos 0)))) < 2 ^ 15)
+  mul-add-asks = (room inv (fit .0), rw (toZ-ofZ c) (coefficient inv (fit .0) enough (fit .2) l))
 
   pub turn : (k : ℕ) → k ≡ length before - 1 - j → SFits w32 (getD before k (pos 0)) → (r : ℤ)
       → r ≡ toZ w64 acc +ℤ toZ w32 (ofZ w32 (getD cs j (pos 0))) *ℤ toZ w32 (ofZ w32 (getD before k (pos 0))) → SFits w64 r
@@ -131,17 +131,17 @@ module _ {n : ℕ} {cs l : List ℤ} {j : ℕ} (inv : Padding n cs l j) where
 
 -- m taps and the latest m of i samples give the coefficients' sum
 module _ (m : ℕ) (cs taps l : List ℤ) (i : ℕ) (few : length cs ≤ m) (is : taps ≡ withZeros m cs) (h : m ≤ i) (g : i ≤ length l) where
-  size : length taps ≡ m
-  size =
+  taps-length : length taps ≡ m
+  taps-length =
       ap length is ∙ length-append cs (replicate (m - length cs) (pos 0)) ∙ ap (λ n. length cs + n) (length-replicate (m - length cs) (pos 0))
       ∙ (let e : length cs + (m - length cs) ≡ m = omega arith in e)
 
   pub taps-ask : Small (2 ^ 15) cs → (length taps ≡ m) × (m ≤ length (take (i - (i - m)) (drop (i - m) l))) × Small (2 ^ 15) taps
-  taps-ask s = (size, omega (arith, mid-len (i - m) i l g), rw is (small-padded (2 ^ 15) (m - length cs) cs (lit< tt) s))
+  taps-ask s = (taps-length, omega (arith, mid-len (i - m) i l g), rw is (small-padded (2 ^ 15) (m - length cs) cs (lit< tt) s))
 
   pub taps-sum : dot (pos 0) taps (reverse (take (i - (i - m)) (drop (i - m) l))) ≡ dot (pos 0) cs (reverse (take i l))
   taps-sum =
-      dot-latest taps l m i (omega (arith, size)) h g ∙ ap (λ (t : List ℤ). dot (pos 0) t (reverse (take i l))) is
+      dot-latest taps l m i (omega (arith, taps-length)) h g ∙ ap (λ (t : List ℤ). dot (pos 0) t (reverse (take i l))) is
       ∙ dot-padded (pos 0) (m - length cs) cs (reverse (take i l))
 
 -- ---- the coefficients of each fixed order: as many as the order, and small

@@ -6,7 +6,7 @@ use mathlib.Core.List.{reverse}
 use borrow.Author.Needs.{needs}
 use lib.ListN.{length}
 use Rattle.number.proofs.Sizes.{Dotted, begin, room, end}
-use Rattle.subframe.proofs.PredictSums.{asks, turn}
+use Rattle.subframe.proofs.PredictSums.{mul-add-asks, turn}
 use Rattle.subframe.proofs.predict.dot.Statement.{statement}
 use Rattle.subframe.proofs.predict.dot.Tie as tie
 
@@ -40,7 +40,7 @@ shared-slice-copy-out-mul-add-2 c = search needs
 mul-add-requires : tie.Need-mul-add-requires Inv-loop μ-loop
 mul-add-requires c κs =
     let l = c .before .before .before in let s = l .before in
-    asks (s .args .coefficients .now) (s .args .before .now) (l .loop .inv) (s .pre) (omega arith) (record { sfits = search needs })
+    mul-add-asks (s .args .coefficients .now) (s .args .before .now) (l .loop .inv) (s .pre) (omega arith) (record { sfits = search needs })
 
 add-j : tie.Need-add-j Inv-loop μ-loop
 add-j c = search needs

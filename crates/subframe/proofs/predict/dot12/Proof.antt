@@ -5,7 +5,7 @@ use mathlib.Core.Path.{refl}
 use mathlib.Core.List.{reverse}
 use borrow.Author.Needs.{needs}
 use Rattle.number.proofs.Sizes.{Dotted, begin, room, end}
-use Rattle.subframe.proofs.PredictSums.{asks, turn}
+use Rattle.subframe.proofs.PredictSums.{mul-add-asks, turn}
 use Rattle.subframe.proofs.predict.dot12.Statement.{statement}
 use Rattle.subframe.proofs.predict.dot12.Tie as tie
 
@@ -39,7 +39,7 @@ shared-slice-copy-out-mul-add c = search needs
 mul-add-requires : tie.Need-mul-add-requires Inv-loop μ-loop
 mul-add-requires c κs =
     let l = c .before .before .before in let s = l .before in
-    asks (s .args .taps .now) (s .args .before .now) (l .loop .inv) (omega arith, omega arith, s .pre .2) (omega arith) (record { sfits = search needs })
+    mul-add-asks (s .args .taps .now) (s .args .before .now) (l .loop .inv) (omega arith, omega arith, s .pre .2) (omega arith) (record { sfits = search needs })
 
 add-j : tie.Need-add-j Inv-loop μ-loop
 add-j c = search needs
