@@ -1,9 +1,8 @@
--- For callers: what the answers of this crate say of the definition's questions, whose runs on bytes they are, and what
--- the count of the zeros says of the zeros. Assumes nothing.
+-- For callers: what an answer says of the definition's question, and a count of the zeros. Assumes nothing.
 use Prim.Native.Nat.{ℕ, suc, _+_, _*_, _-_, _/_, _%_, _^_, _≤_, _<_}
 use native.Mathlib.Nat.{mod-eq-of-lt, lt-of-lt-of-le}
 use native.Mathlib.Omega.{arith}
-use mathlib.Core.Path.{_≡_, refl, ap, sym, _∙_, subst}
+use mathlib.Core.Path.{_≡_, refl, ap, sym, _∙_}
 use mathlib.Core.Bool.{Bool, true, false}
 use mathlib.Core.List.{List}
 use mathlib.Core.Logic.{_⊎_, inl, inr, ⊎-elim}
@@ -11,38 +10,26 @@ use borrow.Author.Tests.{lt-ltb, le-ltb, ltb-true, ltb-false}
 use lib.Dec.{ltb}
 use lib.Pow.{pow-mono}
 use Rattle.reading.specs.declared.Place.{Place}
-use Rattle.reading.specs.Reading.{Ask, bits, zeros}
+use Rattle.reading.specs.Reading.{bits, zeros}
 use Rattle.reading.specs.Places.{At, gotAt, refusedAt, shortAt, runAt}
 use Rattle.reading.proofs.Running.{bits-below}
-use Rattle.reading.proofs.Holding.{Holds, Meets, holds-at, holds-bits, holds-zeros}
 use Rattle.input.specs.declared.Bits.{Bits}
 use Rattle.input.specs.declared.Bits.the-variants.{Value, Short}
 use Rattle.input.specs.Answers.{means, mapAt, low64, count, counted}
 
--- ---- the questions never refuse
+-- ---- read_bits: a number of at most 64 bits is exact
 
-calm : {A : Type 0} {P : A → Type 0} {p : Ask A} → Holds (λ n. ⊥) P p → (s : List ℕ) (at : Place) (k : ℕ) → runAt p s at ≡ refusedAt k → ⊥
-calm {P = P} h s at k e = subst (Meets (λ n. ⊥) P) e (holds-at (λ n. ⊥) P s at h)
-
-pub bits-calm : (n : ℕ) (s : List ℕ) (at : Place) (k : ℕ) → runAt (bits n) s at ≡ refusedAt k → ⊥
-bits-calm n s at k e = calm (holds-bits n) s at k e
-
-pub zeros-calm : (s : List ℕ) (at : Place) (k : ℕ) → runAt zeros s at ≡ refusedAt k → ⊥
-zeros-calm s at k e = calm holds-zeros s at k e
-
--- ---- read_bits: a number of at most 64 bits is whole
-
-whole : (x : At ℕ) → ((v : ℕ) (p : Place) → x ≡ gotAt v p → v < 2 ^ 64) → low64 x ≡ x
+low64-small : (x : At ℕ) → ((v : ℕ) (p : Place) → x ≡ gotAt v p → v < 2 ^ 64) → low64 x ≡ x
 unfolding low64 mapAt
-whole (gotAt v p) h = ap (λ (w : ℕ). gotAt w p) (mod-eq-of-lt (h v p refl))
-whole (refusedAt n) h = refl
-whole shortAt h = refl
+low64-small (gotAt v p) h = ap (λ (w : ℕ). gotAt w p) (mod-eq-of-lt (h v p refl))
+low64-small (refusedAt n) h = refl
+low64-small shortAt h = refl
 
 module _ (n : ℕ) (s : List ℕ) (at : Place) (h : n ≤ 64) where
   pub low64-is : low64 (runAt (bits n) s at) ≡ runAt (bits n) s at
-  low64-is = whole (runAt (bits n) s at) (λ v p e. lt-of-lt-of-le (bits-below n s at e) (pow-mono h))
+  low64-is = low64-small (runAt (bits n) s at) (λ v p e. lt-of-lt-of-le (bits-below n s at e) (pow-mono h))
 
-  -- what the call answered, and what a match found of it
+  -- by what the call answered, and what a match found of it
   pub read-is : {r r′ : Bits} → means r ≡ low64 (runAt (bits n) s at) → r ≡ r′ → runAt (bits n) s at ≡ means r′
   read-is e f = sym low64-is ∙ sym e ∙ ap means f
 
@@ -58,27 +45,27 @@ bit-is s at e f = read-is 1 s at (omega arith) e f
 
 -- ---- read_unary
 
-map-got : (f : ℕ → ℕ) (x : At ℕ) {c : ℕ} {p : Place} → gotAt c p ≡ mapAt f x → (z : ℕ) × (x ≡ gotAt z p) × (c ≡ f z)
+mapAt-got : (f : ℕ → ℕ) (x : At ℕ) {c : ℕ} {p : Place} → gotAt c p ≡ mapAt f x → (z : ℕ) × (x ≡ gotAt z p) × (c ≡ f z)
 unfolding mapAt
-map-got f (gotAt z q) {c} {p} e = let a : c ≡ f z = cc in let b : q ≡ p = cc in (z, ap (gotAt z) b, a)
-map-got f (refusedAt n) e = absurd (let z : _≡_ {A = ℕ} 0 1 = cc in omega arith)
-map-got f shortAt e = absurd (let z : _≡_ {A = ℕ} 0 1 = cc in omega arith)
+mapAt-got f (gotAt z q) {c} {p} e = let a : c ≡ f z = cc in let b : q ≡ p = cc in (z, ap (gotAt z) b, a)
+mapAt-got f (refusedAt n) e = absurd (let z : _≡_ {A = ℕ} 0 1 = cc in omega arith)
+mapAt-got f shortAt e = absurd (let z : _≡_ {A = ℕ} 0 1 = cc in omega arith)
 
-map-short : (f : ℕ → ℕ) (x : At ℕ) → shortAt ≡ mapAt f x → x ≡ shortAt
+mapAt-short : (f : ℕ → ℕ) (x : At ℕ) → shortAt ≡ mapAt f x → x ≡ shortAt
 unfolding mapAt
-map-short f (gotAt z q) e = absurd (let z : _≡_ {A = ℕ} 0 1 = cc in omega arith)
-map-short f (refusedAt n) e = absurd (let z : _≡_ {A = ℕ} 0 1 = cc in omega arith)
-map-short f shortAt e = refl
+mapAt-short f (gotAt z q) e = absurd (let z : _≡_ {A = ℕ} 0 1 = cc in omega arith)
+mapAt-short f (refusedAt n) e = absurd (let z : _≡_ {A = ℕ} 0 1 = cc in omega arith)
+mapAt-short f shortAt e = refl
 
 module _ (s : List ℕ) (at : Place) where
   pub unary-got : {r : Bits} {c : ℕ} {p : Place} → means r ≡ counted (runAt zeros s at) → r ≡ Value c p
       → (z : ℕ) × (runAt zeros s at ≡ gotAt z p) × (c ≡ count z)
   unfolding counted
-  unary-got e f = map-got count (runAt zeros s at) (sym (ap means f) ∙ e)
+  unary-got e f = mapAt-got count (runAt zeros s at) (sym (ap means f) ∙ e)
 
   pub unary-short : {r : Bits} → means r ≡ counted (runAt zeros s at) → r ≡ Short → runAt zeros s at ≡ shortAt
   unfolding counted
-  unary-short e f = map-short count (runAt zeros s at) (sym (ap means f) ∙ e)
+  unary-short e f = mapAt-short count (runAt zeros s at) (sym (ap means f) ∙ e)
 
 -- ---- the count of the zeros
 
@@ -90,31 +77,31 @@ pub count-many : {z : ℕ} → 2 ^ 32 ≤ z → count z ≡ 2 ^ 32 + z % 2 ^ 32
 unfolding count
 count-many h = rw (le-ltb _ _ h)
 
--- fewer, or not: a fact of z and its count that holds both ways
-either : (z : ℕ) → ((z < 2 ^ 32) × (count z ≡ z)) ⊎ ((2 ^ 32 ≤ z) × (count z ≡ 2 ^ 32 + z % 2 ^ 32))
-either z = go (ltb z (2 ^ 32)) refl
+-- fewer than 2 ^ 32 zeros, or not
+count-cases : (z : ℕ) → ((z < 2 ^ 32) × (count z ≡ z)) ⊎ ((2 ^ 32 ≤ z) × (count z ≡ 2 ^ 32 + z % 2 ^ 32))
+count-cases z = go (ltb z (2 ^ 32)) refl
   where
     go : (b : Bool) → ltb z (2 ^ 32) ≡ b → ((z < 2 ^ 32) × (count z ≡ z)) ⊎ ((2 ^ 32 ≤ z) × (count z ≡ 2 ^ 32 + z % 2 ^ 32))
     go true e = let h = ltb-true _ _ e in inl (h, count-few h)
     go false e = let h = ltb-false _ _ e in inr (h, count-many h)
 
 pub count-below : (z : ℕ) → count z < 2 ^ 33
-count-below z = ⊎-elim (λ h. omega arith) (λ h. omega arith) (either z)
+count-below z = ⊎-elim (λ h. omega arith) (λ h. omega arith) (count-cases z)
 
 pub count-low : (z : ℕ) → count z % 2 ^ 32 ≡ z % 2 ^ 32
-count-low z = ⊎-elim (λ h. omega arith) (λ h. omega arith) (either z)
+count-low z = ⊎-elim (λ h. omega arith) (λ h. omega arith) (count-cases z)
 
--- where it is below 2 ^ 32 it is the zeros
+-- a count below 2 ^ 32 is exact
 pub count-is : (z : ℕ) → count z < 2 ^ 32 → z ≡ count z
-count-is z l = ⊎-elim (λ h. omega arith) (λ h. absurd (omega arith)) (either z)
+count-is z l = ⊎-elim (λ h. omega arith) (λ h. absurd (omega arith)) (count-cases z)
 
 module _ (z m : ℕ) (l : m < 2 ^ 32) where
   pub count-at-most : count z ≤ m → z ≤ m
-  count-at-most h = ⊎-elim (λ k. omega arith) (λ k. omega arith) (either z)
+  count-at-most h = ⊎-elim (λ k. omega arith) (λ k. omega arith) (count-cases z)
 
   pub at-most-count : z ≤ m → count z ≤ m
-  at-most-count h = ⊎-elim (λ k. omega arith) (λ k. omega arith) (either z)
+  at-most-count h = ⊎-elim (λ k. omega arith) (λ k. omega arith) (count-cases z)
 
--- one zero more
+-- one more zero
 pub count-suc : (z : ℕ) → count z + 1 - (count z + 1) / 2 ^ 33 * 2 ^ 32 ≡ count (suc z)
-count-suc z = ⊎-elim (λ h. ⊎-elim (λ k. omega arith) (λ k. omega arith) (either (suc z))) (λ h. ⊎-elim (λ k. omega arith) (λ k. omega arith) (either (suc z))) (either z)
+count-suc z = ⊎-elim (λ h. ⊎-elim (λ k. omega arith) (λ k. omega arith) (count-cases (suc z))) (λ h. ⊎-elim (λ k. omega arith) (λ k. omega arith) (count-cases (suc z))) (count-cases z)

@@ -1,4 +1,4 @@
--- The contracts settle the outcome: any two that meet a public function's contract are equal. Assumes nothing.
+-- One outcome: any two answers that meet a public function's contract are equal. Assumes nothing.
 use Prim.Native.Nat.{ℕ}
 use mathlib.Core.Path.{_≡_, refl, ap, sym, _∙_}
 use Rattle.reading.specs.Places.{At, gotAt, refusedAt, shortAt}
@@ -19,7 +19,7 @@ unfolding back
 back-means (Value v p) = refl
 back-means Short = refl
 
--- answers that mean the same are the same
+-- answers with the same meaning are equal
 pub means-one : (r r′ : Bits) → means r ≡ means r′ → r ≡ r′
 means-one r r′ e = sym (back-means r) ∙ ap back e ∙ back-means r′
 

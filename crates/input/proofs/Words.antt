@@ -1,4 +1,4 @@
--- What a word keeps of a number to which some bits are added: its last bits. Assumes nothing.
+-- Words of w bits: what is kept of a number when m bits are appended to it. Assumes nothing.
 use Prim.Native.Nat.{ℕ, _+_, _*_, _-_, _%_, _^_, _≤_, _<_}
 use native.Mathlib.Nat.{add-comm, add-zero}
 use native.Mathlib.Omega.{arith}
@@ -11,11 +11,11 @@ join-low a j m {x} h = mod-pow-add (a * 2 ^ m + x) j m ∙ ap₂ (λ (y z : ℕ)
 low-low : (a j m : ℕ) → a % 2 ^ (j + m) % 2 ^ j ≡ a % 2 ^ j
 low-low a j m = ap (λ (k : ℕ). a % 2 ^ k % 2 ^ j) (add-comm j m) ∙ mod-mod-pow a m j
 
-shift : (a j m : ℕ) → (a % 2 ^ (j + m) * 2 ^ m) % 2 ^ (j + m) ≡ a % 2 ^ j * 2 ^ m
-shift a j m =
+shift-low : (a j m : ℕ) → (a % 2 ^ (j + m) * 2 ^ m) % 2 ^ (j + m) ≡ a % 2 ^ j * 2 ^ m
+shift-low a j m =
     ap (λ (y : ℕ). y % 2 ^ (j + m)) (sym (add-zero (a % 2 ^ (j + m) * 2 ^ m))) ∙ join-low (a % 2 ^ (j + m)) j m (pow-pos m)
     ∙ add-zero (a % 2 ^ (j + m) % 2 ^ j * 2 ^ m) ∙ ap (λ (y : ℕ). y * 2 ^ m) (low-low a j m)
 
--- a word of w bits that is shifted, and m bits added, is the word of the number so made
-pub grown : (w a m : ℕ) {x : ℕ} → m ≤ w → x < 2 ^ m → (a % 2 ^ w * 2 ^ m) % 2 ^ w + x ≡ (a * 2 ^ m + x) % 2 ^ w
-grown w a m {x} l h = rw (let e : w ≡ (w - m) + m = omega arith in e) (ap (λ (y : ℕ). y + x) (shift a (w - m) m) ∙ sym (join-low a (w - m) m h))
+-- a word shifted by m bits, plus the m new bits, is the word of the longer number
+pub word-append : (w a m : ℕ) {x : ℕ} → m ≤ w → x < 2 ^ m → (a % 2 ^ w * 2 ^ m) % 2 ^ w + x ≡ (a * 2 ^ m + x) % 2 ^ w
+word-append w a m {x} l h = rw (let e : w ≡ (w - m) + m = omega arith in e) (ap (λ (y : ℕ). y + x) (shift-low a (w - m) m) ∙ sym (join-low a (w - m) m h))

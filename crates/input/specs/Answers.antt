@@ -1,5 +1,4 @@
--- What an answer of bit reading means, in the words of the definition; and what a word of 64 bits keeps of the number
--- that was read.
+-- What the answers of this crate mean in the definition, and what 64 bits keep of the number that was read.
 use Prim.Native.Nat.{ℕ, _+_, _%_, _^_}
 use lib.Dec.{ltb}
 use Rattle.reading.specs.Reading.{if_then_else_}
@@ -16,11 +15,11 @@ mapAt f (gotAt a p) = gotAt (f a) p
 mapAt f (refusedAt n) = refusedAt n
 mapAt f shortAt = shortAt
 
--- of more than 64 bits the last 64
+-- of more than 64 bits, the last 64
 unfoldable pub low64 : At ℕ → At ℕ
 low64 x = mapAt (λ v. v % 2 ^ 64) x
 
--- The zeros themselves where there are fewer than 2 ^ 32; else their low 32 bits, and a bit above them that says so.
+-- The number of zeros where there are fewer than 2 ^ 32; else its low 32 bits, with bit 32 set.
 unfoldable pub count : ℕ → ℕ
 count z = if ltb z (2 ^ 32) then z else 2 ^ 32 + z % 2 ^ 32
 

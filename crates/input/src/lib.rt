@@ -1,6 +1,6 @@
-// Reading bits of the input at a place: claxon's input.rs with the slice and a place by value for its stream. Each
-// function answers on every argument. It promises what the definition's questions get of these bytes from that place
-// (crates/reading), and nothing of how. Bits are taken most significant first (RFC 9639 section 5).
+// Bits of a slice at a place: claxon's input.rs, with a slice and a place by value instead of a stream. Each function
+// answers on every argument, with what the definition's question (crates/reading) gets from these bytes at that place.
+// Bits are read most significant first (RFC 9639 section 5).
 use reading::Place;
 use reading::is_inside;
 ghost use mathlib.Core.Path.{_≡_};
@@ -9,13 +9,13 @@ ghost use Rattle.reading.specs.Reading.{bits, zeros};
 ghost use Rattle.reading.specs.Places.{position, placeOf, runAt};
 ghost use Rattle.input.specs.Answers.{means, low64, counted};
 
-// What was read and the place behind it, or that the input ends first.
+// What was read and the place after it, or that the input ends first.
 pub enum Bits {
     Value(u64, Place),
     Short,
 }
 
-// The next n bits as a number, of more than 64 bits the last 64. It goes by bytes: each turn takes what is wanted of one.
+// The next n bits as a number; of more than 64 bits, the last 64. Each turn of the loop takes bits of one byte.
 pub fn read_bits(s: &[u8], at: Place, n: u32) -> Bits
     ensures { λ r. ⌜ means r ≡ low64 (runAt (bits n) (now (s .entry)) at) ⌝ }
 {
@@ -31,7 +31,7 @@ pub fn read_bits(s: &[u8], at: Place, n: u32) -> Bits
         if s.len() <= byte {
             return Bits::Short;
         }
-        let m = lesser(8 - bit, left);
+        let m = number::lesser(8 - bit, left);
         acc = (acc << m) + chunk(s[byte], bit, m);
         p = skip(p, m);
         left -= m;
@@ -39,8 +39,8 @@ pub fn read_bits(s: &[u8], at: Place, n: u32) -> Bits
     Bits::Value(acc, p)
 }
 
-// How many zeros stand before the next one, which is passed too. From 2 ^ 32 zeros on it is their low 32 bits, and a
-// bit above them: a Rice quotient wants the low bits only, the wasted bits want to know that there were too many.
+// The number of zero bits before the next 1 bit, which is read too. From 2 ^ 32 zeros on it is the low 32 bits of their
+// number, with bit 32 set: a Rice quotient needs only the low bits, the wasted bits only that there are too many.
 pub fn read_unary(s: &[u8], at: Place) -> Bits
     ensures { λ r. ⌜ means r ≡ counted (runAt zeros (now (s .entry)) at) ⌝ }
 {
@@ -64,8 +64,8 @@ pub fn read_unary(s: &[u8], at: Place) -> Bits
     }
 }
 
-// The count of one zero more: it comes round to 2 ^ 32, so that it never overflows and never loses the bit that says
-// so many.
+// The count after one more zero. From 2 ^ 33 - 1 it goes back to 2 ^ 32: it does not overflow, and bit 32, which says
+// that there were too many, stays set.
 fn one_more(c: u64) -> u64
     requires { ⌜ c < 2 ^ 33 ⌝ }
     ensures { λ r. ⌜ r ≡ c + 1 - (c + 1) / 2 ^ 33 * 2 ^ 32 ⌝ }
@@ -77,7 +77,7 @@ fn one_more(c: u64) -> u64
     }
 }
 
-// The m bits of a byte from this bit on.
+// The m bits of a byte that start at `bit`.
 fn chunk(b: u8, bit: usize, m: usize) -> u64
     requires { ⌜ bit + m ≤ 8 ⌝ }
     ensures { λ r. ⌜ r ≡ b / 2 ^ (8 - (bit + m)) % 2 ^ m ⌝ }
@@ -85,7 +85,7 @@ fn chunk(b: u8, bit: usize, m: usize) -> u64
     ((b as u64) >> (8 - (bit + m))) % (1u64 << m)
 }
 
-// The place m bits on, in the same byte or at the start of the next.
+// The place m bits later, in the same byte or at the start of the next.
 fn skip(at: Place, m: usize) -> Place
     requires { ⌜ (at .bit + m ≤ 8) × (at .byte < 2 ^ 63) ⌝ }
     ensures { λ r. ⌜ r ≡ placeOf (position at + m) ⌝ }
@@ -99,10 +99,4 @@ fn skip(at: Place, m: usize) -> Place
         };
     }
     Place { byte, bit: bit + m }
-}
-
-fn lesser(a: usize, b: usize) -> usize
-    ensures { λ r. ⌜ (r ≤ a) × (r ≤ b) × ((0 < a) → (0 < b) → 0 < r) ⌝ }
-{
-    if a < b { a } else { b }
 }

@@ -1,6 +1,5 @@
-// The functions of `block` on claxon's test data, and each of their refusals. A line has the block as channels x
-// size, a channel and an index; then what all three answer: the channel's range and the samples there, the sample and
-// the pair.
+// The functions of `block` on claxon's test data, and each of their refusals. A line has the block as channels x size,
+// a channel and an index, then the three answers: the channel's range and its samples, the sample, and the pair.
 use crate::show::equals;
 use crate::show::mark;
 use crate::show::put;
@@ -16,7 +15,7 @@ use block::channel;
 use block::pair;
 use block::sample;
 
-// The slice is taken with no test of its own: that the range lies in the samples is known by `channel`'s promise.
+// The slice needs no check: by its contract, `channel` answers a range that lies in the samples.
 fn channel_at(s: &[i32], b: Block, c: usize) {
     let r = channel(s, b, c);
     match r {
@@ -76,13 +75,13 @@ pub fn blocks() {
     at(s, 2, 3, 0, 3);
     // a block of no samples
     at(s, 3, 0, 1, 0);
-    // a channel out of range, samples fewer than the block has, and a block of 2^64 samples, which are 0 in 64 bits
+    // a channel out of range, fewer samples than the block has, and a block of 2^64 samples, which is 0 in 64 bits
     at(s, 3, 5, 3, 0);
     at(s, 4, 4, 0, 0);
     at(s, 0x1_0000_0000, 0x1_0000_0000, 0, 0);
     // an index out of range
     at(s, 3, 5, 0, 5);
-    // no two channels; and two, with samples fewer than the block has
+    // not two channels; and two, with fewer samples than the block has
     at(s, 1, 5, 0, 0);
     at(s, 3, 5, 0, 0);
     at(s, 2, 8, 0, 0);

@@ -20,8 +20,8 @@ fn both(data: &[u8], from: usize, to: usize) {
     mark(b'\n');
 }
 
-// The data of claxon's verify_crc8_test_vectors and verify_crc16_test_vectors, the nine digits that the published check
-// values are of, and nothing.
+// The data of claxon's verify_crc8_test_vectors and verify_crc16_test_vectors, the nine digits of the published check
+// values, and the empty input.
 pub fn sums() {
     let data: &[u8] = b"\x1f\x04\x01\x61\x62\x63123456789";
     both(data, 0, 1);

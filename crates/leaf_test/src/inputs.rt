@@ -1,6 +1,6 @@
 // claxon's tests of bit reading (input.rs), with its data and its steps, and one of what claxon leaves undefined. The
-// data has a line. Then each step has one: `b` for one bit, b17 for `read_bits` of 17 and `u` for `read_unary`, the
-// place that it starts at, what it got and the place behind it; nothing where the input is short.
+// data is on a line of its own. Then each step has a line: `b` for one bit, b17 for `read_bits` of 17 bits, `u` for
+// `read_unary`; the place that it starts at; the value and the place after it, or nothing where the input is short.
 use crate::show::bytes;
 use crate::show::equals;
 use crate::show::mark;
@@ -12,7 +12,7 @@ use input::read_bits;
 use input::read_unary;
 use reading::Place;
 
-// A step is a number of bits, or a letter: for one bit, or of the function that takes no number.
+// A step is a number of bits, or a letter: b for one bit, u for `read_unary`.
 fn read(s: &[u8], at: Place, n: u8) -> Bits {
     if n == b'b' {
         mark(n);
@@ -26,7 +26,7 @@ fn read(s: &[u8], at: Place, n: u8) -> Bits {
     read_bits(s, at, n as u32)
 }
 
-// One step, and the place to go on from.
+// One step. Returns the place after it, or the same place where the input is short.
 fn step(s: &[u8], at: Place, n: u8) -> Place {
     let mut next = at;
     let r = read(s, at, n);
@@ -41,7 +41,7 @@ fn step(s: &[u8], at: Place, n: u8) -> Place {
     next
 }
 
-// Some steps from a place on, each from the place behind the one before it.
+// Steps from a place, each from where the one before it ended.
 fn steps(s: &[u8], ns: &[u8], byte: usize, bit: usize) {
     bytes(s);
     mark(b'\n');
@@ -53,7 +53,7 @@ fn steps(s: &[u8], ns: &[u8], byte: usize, bit: usize) {
     }
 }
 
-// A part of the data, a part of the steps, and the place of the first.
+// A part of the steps on a part of the data, from this place.
 fn reads(
     data: &[u8],
     from: usize,
@@ -84,7 +84,7 @@ pub fn inputs() {
         \x40\x48\x09\x08\x00bu";
     // claxon's verify_read_bit: more bits are mixed in, to see that they are compatible
     reads(data, 0, 2, ns, 0, 16, 0, 0);
-    // its verify_read_unary: one ends past the first byte, one skips a byte of zeros, and the place behind is right
+    // its verify_read_unary: one ends past the first byte, one skips a byte of zeros, and the place after is right
     reads(data, 2, 7, ns, 16, 24, 0, 0);
     // its verify_read_leq_u8, verify_read_gt_u8_get_u16, verify_read_leq_u16 and verify_read_leq_u32
     reads(data, 7, 15, ns, 24, 42, 0, 0);
@@ -93,7 +93,7 @@ pub fn inputs() {
     reads(data, 15, 19, ns, 52, 55, 0, 0);
     // its verify_read_mixed: the warm-up samples of an actual stream
     reads(data, 20, 37, ns, 55, 64, 0, 0);
-    // of more than 64 bits the last 64, and nothing at a place that is none
+    // of more than 64 bits the last 64, and nothing at a place outside the input
     reads(data, 37, 47, ns, 64, 65, 0, 0);
     reads(data, 37, 47, ns, 65, 69, 0, 0);
     reads(data, 37, 47, ns, 68, 69, 10, 1);

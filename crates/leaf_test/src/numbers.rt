@@ -25,7 +25,7 @@ fn extend(v: u64, width: u32) {
     answer(sign_extend(v, width));
 }
 
-// From the folded form, and back to it.
+// From the folded form, and back.
 fn rice(n: u32) {
     text(b"unfold fold");
     put(b' ', n as u64);
@@ -116,7 +116,7 @@ pub fn claxon() {
     rice(4294967295);
 }
 
-// The least and the largest number of a width, and widths that are taken for 64.
+// The least and the largest number of a width, and widths over 64, which count as 64.
 pub fn boundaries() {
     extend(18446744073709551615, 0);
     extend(0, 1);
@@ -162,7 +162,7 @@ pub fn wraps() {
     sums(0, -2147483648);
 }
 
-// Shifts by nothing, by all the bits that there are, and by more.
+// Shifts by 0, by the number of bits, and by more.
 pub fn shifts() {
     up(-2147483648, 0);
     up(2147483647, 1);
@@ -185,7 +185,7 @@ pub fn shifts() {
     down(-1, 4294967295);
 }
 
-// The lesser first, last, and neither.
+// The lesser number first, last, and two equal ones.
 pub fn lessers() {
     less(0, 18446744073709551615);
     less(18446744073709551615, 0);

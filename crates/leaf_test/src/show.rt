@@ -1,6 +1,6 @@
-// What the lines are made of, and how the data of a case is named. A text or an array of its own makes a call take the
-// proof several times as long as numbers do. So marks are given as bytes, and the data of many cases stand in one text,
-// of which a case names a part.
+// The pieces of an output line, and the data of a case. A call with a byte string or an array of its own takes several
+// times as long to prove as one with numbers. So separators are bytes, and the data of many cases is one byte string,
+// of which each case names a part.
 use error::Refusal;
 use error::number_of;
 use libc::STDOUT_FILENO;
@@ -17,13 +17,13 @@ pub fn mark(c: u8) {
     io::write_all(STDOUT_FILENO, &s);
 }
 
-// A number behind a mark.
+// A byte, then a number.
 pub fn put(before: u8, x: u64) {
     mark(before);
     io::print_decimal(STDOUT_FILENO, x);
 }
 
-// A number behind a space and its sign.
+// A space, then a number with its sign.
 pub fn value(x: i64) {
     let bits = low_bits(x, 64);
     if x < 0 {
@@ -87,7 +87,7 @@ pub fn refused(e: Refusal) {
     put(b' ', number_of(e) as u64);
 }
 
-// A part of some data; nothing where there is no such part.
+// A part of the data, or nothing where the range is out of bounds.
 pub fn part(data: &[u8], from: usize, to: usize) -> &[u8] {
     if from <= to && to <= data.len() {
         &data[from..to]

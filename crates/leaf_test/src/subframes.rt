@@ -1,6 +1,6 @@
-// Channels by hand, through `decode`: claxon's tests of the predictors (subframe.rs) as subframes, the kinds, the
-// boundaries of the partitions, and each refusal. A line has the bytes, the width and the size, then the place behind
-// the subframe or the refusal, and the samples. They are 7 before, so zeros behind a refusal were put there.
+// Subframes through `decode`: claxon's tests of the predictors (subframe.rs) as subframes, each type, the boundaries of
+// the partitions, and each refusal. A line has the bytes, the width and the size, then the place after the subframe or
+// the refusal, and the samples. The samples start as 7, so zeros after a refusal were written by `decode`.
 use crate::show::bytes;
 use crate::show::equals;
 use crate::show::mark;
@@ -33,7 +33,7 @@ fn line(s: &[u8], width: u32, out: &mut [i32]) {
     decoded(decode(s, Place { byte: 0, bit: 0 }, width, out), out);
 }
 
-// A channel of n samples, at most 4096, in a part of some data.
+// A channel of n samples, at most 4096, from a part of the data.
 fn run(data: &[u8], from: usize, to: usize, width: u32, n: usize) {
     let mut out = [7i32; 4096];
     if n <= 4096 {
@@ -65,7 +65,7 @@ pub fn channels() {
     run(s, 27, 62, 16, 16);
     run(s, 62, 92, 16, 8);
     run(s, 92, 196, 24, 21);
-    // each kind, the wasted bits, the widest samples, and two partitions under parameters of 5 bits
+    // each type, wasted bits, the widest samples, and two partitions with parameters of 5 bits
     run(s, 196, 198, 8, 4);
     run(s, 198, 201, 4, 4);
     run(s, 201, 205, 8, 3);
@@ -73,8 +73,8 @@ pub fn channels() {
     run(s, 214, 221, 8, 6);
 }
 
-// 1024 partitions of 4 samples: a warm-up of 4 leaves nothing of the first, one of 5 does not fit. 4095 samples are no
-// two partitions.
+// 1024 partitions of 4 samples: a warm-up of 4 leaves the first one empty, one of 5 does not fit. 4095 samples cannot
+// be split into two partitions.
 pub fn boundaries() {
     let mut data = [0xc3u8; 1034];
     data[0] = 0x18;
@@ -108,7 +108,7 @@ pub fn refusals() {
         \x18\x00\x00\x00\x00\x00\x00\x00\x00\
         \x14\x05\x06\x08\x00\x00\
         \x00\x00\x00\x00\x00\x00";
-    // cut short, and what is reserved
+    // cut short, and reserved codes
     run(s, 0, 3, 12, 3);
     run(s, 3, 5, 8, 2);
     run(s, 5, 7, 8, 2);
@@ -118,7 +118,7 @@ pub fn refusals() {
     run(s, 16, 22, 8, 3);
     run(s, 22, 28, 8, 3);
     run(s, 28, 34, 8, 3);
-    // sizes that contradict each other, and a width that is no argument
+    // sizes that contradict each other, and a width over 32
     run(s, 34, 38, 8, 2);
     run(s, 38, 47, 8, 3);
     run(s, 47, 53, 8, 4);

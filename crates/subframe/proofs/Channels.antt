@@ -1,40 +1,41 @@
--- A channel as a whole: a slice that is changed in place, a predictor's block and its coefficients, one sample for all,
--- what is behind a header, and zeros where it stops. Assumes nothing.
+-- A subframe's samples: constant, predicted, shifted by the wasted bits, and zeros on a refusal. Assumes nothing.
 use Prim.Native.Nat.{ℕ, suc, _+_, _-_, _^_, _≤_, _<_}
 use native.Mathlib.Numerals.{add-one}
 use native.Mathlib.Omega.{arith}
 use mathlib.Core.Path.{_≡_, refl, ap, ap₂, sym, _∙_, subst}
 use mathlib.Core.List.{List, [], _∷_, _++_, map, append-nil}
 use borrow.Author.Tests.{le-leb, lt-leb}
+use borrow.Rule.Slice.PartMut.{putMid}
 use lib.IntN.{ℤ, pos, negsuc}
 use lib.ListN.{length, take, drop, getD, set, replicate, length-set}
-use lib.Seq.{take-suc-set, drop-set-lt, drop-cons, append-snoc, take-all, take-at, drop-at, drop-length}
+use lib.Seq.{take-suc-set, drop-set-lt, drop-cons, append-snoc, take-all, drop-length}
 use mir.Syntax.{w32}
 use mir.Val.{SFits, toZ, ofZ}
 use mir.Facts.{toZ-ofZ}
 use Rattle.reading.specs.declared.Place.{Place}
 use Rattle.reading.specs.Reading.{Ask, done, _>>=_, many}
 use Rattle.reading.specs.Places.{At, gotAt, refusedAt, shortAt, runAt}
-use Rattle.reading.proofs.Running.{In, stays-in, runAt-done, bind-got, bind-short, require-holds, require-fails}
-use Rattle.reading.proofs.Holding.{Holds, value, Meets, Every, Sized, holds-at, holds-bind, holds-bits, holds-many}
+use Rattle.reading.proofs.Running.{In, bind-short, require-holds, require-fails}
+use Rattle.reading.proofs.Holding.{Holds, value, Every, Sized, holds-bind, holds-bits, holds-many}
 use Rattle.error.specs.declared.Refusal.{Refusal}
 use Rattle.number.specs.Private.{Small}
 use Rattle.rfc9639.specs.declared.SubframeHeader.{SubframeHeader}
 use Rattle.rfc9639.specs.declared.SubframeType.the-variants.{Constant}
 use Rattle.rfc9639.specs.Integers.{sample, shiftUp}
+use Rattle.rfc9639.specs.Residual.{residual}
 use Rattle.rfc9639.specs.Prediction.{predict}
 use Rattle.rfc9639.specs.Subframe.{orderOf, samples, subframe, subframeBehind}
 use Rattle.rfc9639.proofs.Widths.{Fits, fits-mono, signed-fits}
 use Rattle.subframe.specs.declared.Decoded.{Decoded}
 use Rattle.subframe.specs.declared.Decoded.the-variants.{Done, Refused}
-use Rattle.subframe.specs.declared.answers.Sample.{Sample}
-use Rattle.subframe.specs.declared.answers.Sample.the-variants.{Value, Short}
+use Rattle.subframe.specs.declared.answers.SampleRead.{SampleRead}
+use Rattle.subframe.specs.declared.answers.SampleRead.the-variants.{Value, Short}
 use Rattle.subframe.specs.Answers.{means, decodeAt, cleared, Left}
-use Rattle.subframe.specs.Private.{sampled}
-use Rattle.subframe.proofs.Lending.{done-is, refused-is, passed-on}
-use Rattle.subframe.proofs.Behind.{Any}
+use Rattle.subframe.specs.Private.{sampleReadAt, Predictable, predictedInPlace, predictedBlock}
+use Rattle.subframe.proofs.Lending.{answer-is, done-is, refused-is, passed-on, bind-done, then-done, rest-put, first-taken, first-dropped}
+use Rattle.subframe.proofs.Behind.{Any, got-holds}
 
--- ---- a slice that is changed in place, each number by f
+-- ---- a slice changed in place, each number by f
 
 pub record Mapped (f : ℤ → ℤ) (l₀ l : List ℤ) (i : ℕ) : Type 0 where
   pub within : i ≤ length l
@@ -57,7 +58,7 @@ module _ {f : ℤ → ℤ} {l₀ l : List ℤ} {i : ℕ} (inv : Mapped f l₀ l 
         ∙ ap (λ n. take n (set l i z) ++ map f (drop n (set l i z))) (sym (add-one i));
   }
 
-  -- as the functions have it: a signed value is handed on by its bits
+  -- the code passes a signed value by its bits
   pub turn : (z : ℤ) → i < length l → z ≡ f (toZ w32 (ofZ w32 (getD l i (pos 0)))) → SFits w32 (getD l i (pos 0)) → SFits w32 z
       → Mapped f l₀ (set l i (toZ w32 (ofZ w32 z))) (i + 1)
   turn z h e g k = rw (toZ-ofZ k) (step z h (e ∙ ap f (toZ-ofZ g)))
@@ -69,25 +70,29 @@ module _ {f : ℤ → ℤ} {l₀ l : List ℤ} {i : ℕ} (inv : Mapped f l₀ l 
       none : drop i l ≡ []
       none = ap (λ n. drop n l) (let e : i ≡ length l = omega (arith, inv .within) in e) ∙ drop-length l
 
-pub map-constant : (x : ℤ) (l : List ℤ) → map (λ _. x) l ≡ replicate (length l) x
-map-constant x [] = refl
-map-constant x (y ∷ l) = ap (λ (t : List ℤ). x ∷ t) (map-constant x l)
-
 -- ---- a predictor's block
 
--- the warm-up and the residual that stand behind each other
-pub predict-parts : (m : ℕ) (v w : List ℤ) → length v ≡ m → (cs : List ℤ) (shift : ℕ) → predict cs shift (take m (v ++ w)) (drop m (v ++ w)) ≡ predict cs shift v w
-predict-parts m v w e cs shift = ap₂ (λ (a b : List ℤ). predict cs shift a b) (take-at v w m e) (drop-at v w m e)
+-- the block that prediction makes of the warm-up samples and a residual stored after them
+pub predicted-put : (cs : List ℤ) (shift : ℕ) (l rest : List ℤ) → length cs ≤ length l
+    → predictedInPlace cs shift (putMid (length cs) (length l - length cs) l rest) ≡ predict cs shift (take (length cs) l) rest
+predicted-put cs shift l rest h =
+    ap (predictedInPlace cs shift) (rest-put (length cs) l h rest)
+    ∙ ap₂ (λ (a b : List ℤ). predict cs shift a b) (first-taken (length cs) l h (take (length cs) l) refl rest) (first-dropped (length cs) l h (take (length cs) l) refl rest)
 
--- as a function has it: the coefficients by another name, the block by another, and its length by the coefficients' count
-pub predict-is : {T cs L : List ℤ} (v w : List ℤ) (m shift : ℕ) → T ≡ cs → length cs ≡ m → L ≡ v ++ w → length v ≡ m
-    → predict T shift (take (length T) L) (drop (length T) L) ≡ predict cs shift v w
-predict-is {T} {cs} {L} v w m shift e count f size =
-    ap (λ (t : List ℤ). predict t shift (take (length t) L) (drop (length t) L)) e
-    ∙ ap₂ (λ k (l : List ℤ). predict cs shift (take k l) (drop k l)) count f
-    ∙ predict-parts m v w size cs shift
+-- what `decode_predicted` requires and reads: T is the slice of the coefficients, L the block
+module _ {T cs : List ℤ} {order : ℕ} (L : List ℤ) (e : T ≡ cs) (row : (length cs ≡ order) × Small (2 ^ 15) cs) where
+  pub predictable : order ≤ 32 → order ≤ length L → Predictable 32 T L
+  predictable few enough =
+      let count : length T ≡ order = ap length e ∙ row .0 in (omega arith, omega arith, rw e (row .1))
 
--- ---- coefficients: as many as the order, and small enough for exact sums
+  pub predicted-block : (shift n : ℕ) (warm : List ℤ) → take order L ≡ warm → length L ≡ n → (s : List ℕ) (at : Place)
+      → runAt (predictedBlock T shift L) s at ≡ runAt (residual order n >>= (λ r. done (predict cs shift warm r))) s at
+  predicted-block shift n warm f size s at =
+      ap (λ t. runAt (predictedBlock t shift L) s at) e
+      ∙ ap (λ m. runAt (residual m (length L) >>= (λ r. done (predict cs shift (take m L) r))) s at) (row .0)
+      ∙ ap₂ (λ k (w : List ℤ). runAt (residual order k >>= (λ r. done (predict cs shift w r))) s at) size f
+
+-- ---- coefficients that were read: as many as the order, and small enough for exact sums
 
 small-every : (xs : List ℤ) → Every (Fits 15) xs → Small (2 ^ 15) xs
 small-every [] h = tt
@@ -98,35 +103,23 @@ holds-sample : (w : ℕ) → w ≤ 15 → Holds Any (Fits 15) (sample w)
 unfolding sample
 holds-sample w h = holds-bind _ (holds-bits w) (λ v l. value (fits-mono h (signed-fits w v l)))
 
-module _ (precision order : ℕ) (h : precision ≤ 15) (s : List ℕ) (at : Place) {cs : List ℤ} {p : Place}
-    (got : runAt (many order (sample precision)) s at ≡ gotAt cs p) where
-  sized : Sized order (Fits 15) cs
-  sized =
-      subst (Meets Any (Sized order (Fits 15))) got (holds-at Any (Sized order (Fits 15)) s at (holds-many order (holds-sample precision h)))
-
-  pub coefficients-count : length cs ≡ order
-  coefficients-count = sized .count
-
-  -- what the predictor asks of them
-  pub coefficients-ask : {T : List ℤ} {n : ℕ} → T ≡ cs → order ≤ 32 → order ≤ n → (length T ≤ 32) × (length T ≤ n) × Small (2 ^ 15) T
-  coefficients-ask {T} e few enough =
-      let count : length T ≡ order = ap length e ∙ sized .count in
-      (omega arith, omega arith, subst (Small (2 ^ 15)) (sym e) (small-every cs (sized .every)))
+pub read-row : (precision order : ℕ) → precision ≤ 15 → (s : List ℕ) (at : Place) {cs : List ℤ} {p : Place}
+    → runAt (many order (sample precision)) s at ≡ gotAt cs p → (length cs ≡ order) × Small (2 ^ 15) cs
+read-row precision order h s at {cs} got =
+    let sized : Sized order (Fits 15) cs = got-holds (holds-many order (holds-sample precision h)) s at got in (sized .count, small-every cs (sized .every))
 
 -- ---- one sample for all
 
-module _ (w n : ℕ) (s : List ℕ) (at : Place) {r : Sample} (told : sampled r ≡ runAt (sample w) s at) where
+module _ (w n : ℕ) (s : List ℕ) (at : Place) {r : SampleRead} (says : sampleReadAt r ≡ runAt (sample w) s at) where
   pub constant-short : r ≡ Short → shortAt ≡ runAt (samples Constant w n) s at
   unfolding samples
-  constant-short e = sym (bind-short (sample w) s at (λ x. done (replicate n x)) (sym told ∙ ap sampled e))
+  constant-short e = sym (bind-short (sample w) s at (λ x. done (replicate n x)) (answer-is sampleReadAt says e))
 
   pub constant-done : {x : ℤ} {p : Place} {l : List ℤ} → r ≡ Value x p → l ≡ replicate n x → gotAt l p ≡ runAt (samples Constant w n) s at
   unfolding samples
-  constant-done {x} {p} e f =
-      let got : runAt (sample w) s at ≡ gotAt x p = sym told ∙ ap sampled e in
-      ap (λ t. gotAt t p) f ∙ sym (bind-got (sample w) s at (λ x. done (replicate n x)) got ∙ runAt-done (replicate n x) (stays-in (sample w) s at got))
+  constant-done {p = p} e f = ap (λ t. gotAt t p) f ∙ sym (bind-done (sample w) (replicate n) s at (answer-is sampleReadAt says e))
 
--- ---- behind a header
+-- ---- after a header
 
 module _ (n width : ℕ) (h : SubframeHeader) (s : List ℕ) (at : Place) (here : In s at) where
   abbrev body : Ask (List ℤ)
@@ -139,20 +132,18 @@ module _ (n width : ℕ) (h : SubframeHeader) (s : List ℕ) (at : Place) (here 
   unfolding subframeBehind
   headed-short l = sym (require-fails 9 (λ _. body >>= (λ xs. done (shifted xs))) here (lt-leb _ _ l))
 
-  judged : orderOf (h .kind) ≤ n → runAt (body >>= (λ xs. done (shifted xs))) s at ≡ runAt (subframeBehind n width h) s at
+  order-enough : orderOf (h .kind) ≤ n → runAt (body >>= (λ xs. done (shifted xs))) s at ≡ runAt (subframeBehind n width h) s at
   unfolding subframeBehind
-  judged enough = sym (require-holds 9 (λ _. body >>= (λ xs. done (shifted xs))) here (le-leb _ _ enough))
+  order-enough enough = sym (require-holds 9 (λ _. body >>= (λ xs. done (shifted xs))) here (le-leb _ _ enough))
 
-  module _ (enough : orderOf (h .kind) ≤ n) {r : Decoded} (l : List ℤ) (told : means r l ≡ runAt body s at) where
+  module _ (enough : orderOf (h .kind) ≤ n) {r : Decoded} (l : List ℤ) (says : means r l ≡ runAt body s at) where
     pub headed-refused : {e : Refusal} → r ≡ Refused e → (left : List ℤ) → means r left ≡ runAt (subframeBehind n width h) s at
-    headed-refused e left = passed-on body s at (λ xs. done (shifted xs)) l told e left ∙ judged enough
+    headed-refused e left = passed-on body s at (λ xs. done (shifted xs)) l says e left ∙ order-enough enough
 
     pub headed-done : {p : Place} {left : List ℤ} → r ≡ Done p → left ≡ shifted l → gotAt left p ≡ runAt (subframeBehind n width h) s at
-    headed-done {p} e f =
-        let got = done-is l told e in
-        ap (λ t. gotAt t p) f ∙ sym (bind-got body s at (λ xs. done (shifted xs)) got ∙ runAt-done (shifted l) (stays-in body s at got)) ∙ judged enough
+    headed-done e f = then-done body shifted s at l says e f ∙ order-enough enough
 
--- ---- the whole, with zeros where it stops
+-- ---- the whole, with zeros on a refusal
 
 module _ (width n : ℕ) (s : List ℕ) (at : Place) where
   pub too-wide : 32 < width → refusedAt 11 ≡ decodeAt width n s at
@@ -163,12 +154,12 @@ module _ (width n : ℕ) (s : List ℕ) (at : Place) where
   unfolding decodeAt
   not-wide h = rw (le-leb width 32 h)
 
-module _ {x : At (List ℤ)} (n : ℕ) {r : Decoded} (l : List ℤ) (told : means r l ≡ x) where
+module _ {x : At (List ℤ)} (n : ℕ) {r : Decoded} (l : List ℤ) (says : means r l ≡ x) where
   pub left-done : {p : Place} → r ≡ Done p → Left x n (Done p) l
-  left-done e = record { answer = sym (done-is l told e); stopped = tt }
+  left-done e = record { answer = sym (done-is l says e); stopped = tt }
 
   pub left-refused : {e : Refusal} {left : List ℤ} → r ≡ Refused e → left ≡ replicate n (pos 0) → Left x n r left
   left-refused {e} {left} f z = record {
-    answer = ap (λ d. means d left) f ∙ sym (refused-is l told f);
+    answer = ap (λ d. means d left) f ∙ sym (refused-is l says f);
     stopped = subst (λ d. cleared d n left) (sym f) z;
   }

@@ -1,5 +1,4 @@
--- A loop that puts values of one reader into a lent slice, from the front, one a turn: for every such reader.
--- Assumes nothing.
+-- A slice filled from the start: a loop that stores one value of any reader in each turn. Assumes nothing.
 use Prim.Native.Nat.{ℕ, suc, _+_, _-_, _≤_, _<_}
 use native.Mathlib.Nat.{sub-zero}
 use native.Mathlib.Numerals.{add-one}
@@ -16,11 +15,12 @@ use Rattle.reading.specs.declared.Place.{Place}
 use Rattle.reading.specs.Reading.{Ask, many}
 use Rattle.reading.specs.Places.{gotAt, shortAt, runAt}
 use Rattle.reading.proofs.Running.{In, stays-in, behind, behind-nil, many-end, many-step, many-short}
-use Rattle.subframe.specs.declared.answers.Sample.{Sample}
-use Rattle.subframe.specs.declared.answers.Sample.the-variants.{Value, Short}
-use Rattle.subframe.specs.Private.{sampled}
+use Rattle.subframe.specs.declared.answers.SampleRead.{SampleRead}
+use Rattle.subframe.specs.declared.answers.SampleRead.the-variants.{Value, Short}
+use Rattle.subframe.specs.Private.{sampleReadAt}
+use Rattle.subframe.proofs.Lending.{answer-is}
 
--- of l₀ the first i are filled, and l is what it holds now
+-- the slice held l₀, its first i are filled, and it holds l now
 pub record Filling (p : Ask ℤ) (s : List ℕ) (at₀ : Place) (l₀ l : List ℤ) (i : ℕ) (at : Place) : Type 0 where
   pub place : In s at
   pub within : i ≤ length l
@@ -50,13 +50,13 @@ module _ {p : Ask ℤ} {s : List ℕ} {at₀ : Place} {l₀ l : List ℤ} {i : �
         ∙ ap (λ t. behind t (runAt (many (length l₀ - (i + 1)) p) s at′)) (sym (take-suc-set l i x h) ∙ ap (λ n. take n (set l i x)) (sym (add-one i)));
   }
 
-  -- A turn and the ways out, by what the reader's function answered. A signed value is stored by its bits.
-  module _ {r : Sample} (told : sampled r ≡ runAt p s at) where
+  -- a turn and the way out, by what the reader's function answered; the code stores a signed value by its bits
+  module _ {r : SampleRead} (says : sampleReadAt r ≡ runAt p s at) where
     pub step : {z : ℤ} {q : Place} → r ≡ Value z q → SFits w32 z → i < length l → Filling p s at₀ l₀ (set l i (toZ w32 (ofZ w32 z))) (i + 1) q
-    step e f h = rw (toZ-ofZ f) (filled h (sym told ∙ ap sampled e))
+    step e f h = rw (toZ-ofZ f) (filled h (answer-is sampleReadAt says e))
 
     pub cut : r ≡ Short → i < length l → shortAt ≡ runAt (many (length l₀) p) s at₀
-    cut e h = sym (next h ∙ many-short p s (take i l) at (length l₀ - (i + 1)) (sym told ∙ ap sampled e))
+    cut e h = sym (next h ∙ many-short p s (take i l) at (length l₀ - (i + 1)) (answer-is sampleReadAt says e))
 
   pub end : length l ≤ i → gotAt l at ≡ runAt (many (length l₀) p) s at₀
   end h =

@@ -1,5 +1,4 @@
--- A channel's header and a predictor's quantization, question by question: what the definition gets of the bytes, by
--- what the code has read so far. Assumes nothing.
+-- A subframe's header, and a precision and shift, question by question as the code reads them. Assumes nothing.
 use Prim.Native.Nat.{ℕ, _+_, _≤_, _<_}
 use native.Mathlib.Omega.{arith}
 use mathlib.Core.Path.{_≡_, refl, ap, sym, _∙_}
@@ -20,95 +19,96 @@ use Rattle.rfc9639.specs.declared.SubframeType.{SubframeType}
 use Rattle.rfc9639.specs.declared.SubframeHeader.{SubframeHeader}
 use Rattle.rfc9639.specs.Subframe.{subframeType, wastedBits, subframeHeader, wastedJudged, kindAndWasted, quantization}
 use Rattle.subframe.specs.Private.{Quantization}
+use Rattle.subframe.proofs.Lending.{bind-done}
 
 -- ---- the wasted bits
 
-judged-false-many : (k width : ℕ) → 31 < k → (leb k 31 && ltb k width) ≡ false
-judged-false-many k width h = rw (lt-leb _ _ h)
+wasted-test-many : (k width : ℕ) → 31 < k → (leb k 31 && ltb k width) ≡ false
+wasted-test-many k width h = rw (lt-leb _ _ h)
 
-judged-false-wide : (k width : ℕ) → width ≤ k → (leb k 31 && ltb k width) ≡ false
-judged-false-wide k width h = go (leb k 31)
+wasted-test-wide : (k width : ℕ) → width ≤ k → (leb k 31 && ltb k width) ≡ false
+wasted-test-wide k width h = go (leb k 31)
   where
     go : (b : Bool) → (b && ltb k width) ≡ false
     go true = le-ltb _ _ h
     go false = refl
 
--- what the definition does behind the flag, and behind the count
+-- what the definition does after the flag, and after the count
 
-counted-on : Ask ℕ
-counted-on = zeros >>= (λ z. done (z + 1))
+afterSetFlag : Ask ℕ
+afterSetFlag = zeros >>= (λ z. done (z + 1))
 
-flagged : ℕ → Ask ℕ
-flagged v = if eqb v 0 then done 0 else counted-on
+afterFlag : ℕ → Ask ℕ
+afterFlag v = if eqb v 0 then done 0 else afterSetFlag
 
-judge : ℕ → ℕ → Ask ℕ
-judge width k = require (leb k 31 && ltb k width) 9 >> done k
+checkWasted : ℕ → ℕ → Ask ℕ
+checkWasted width k = require (leb k 31 && ltb k width) 9 >> done k
 
 module _ (width : ℕ) (s : List ℕ) (at : Place) where
-  judged : {k : ℕ} {q : Place} → runAt wastedBits s at ≡ gotAt k q → runAt (wastedJudged width) s at ≡ runAt (judge width k) s q
-  unfolding wastedJudged judge
-  judged e = bind-got wastedBits s at (judge width) e
+  checked-then : {k : ℕ} {q : Place} → runAt wastedBits s at ≡ gotAt k q → runAt (wastedJudged width) s at ≡ runAt (checkWasted width k) s q
+  unfolding wastedJudged checkWasted
+  checked-then e = bind-got wastedBits s at (checkWasted width) e
 
-  judged-keeps : {k : ℕ} {q : Place} → runAt wastedBits s at ≡ gotAt k q → k ≤ 31 → k < width → runAt (wastedJudged width) s at ≡ gotAt k q
-  unfolding judge
-  judged-keeps {k} {q} e l m =
+  checked-keeps : {k : ℕ} {q : Place} → runAt wastedBits s at ≡ gotAt k q → k ≤ 31 → k < width → runAt (wastedJudged width) s at ≡ gotAt k q
+  unfolding checkWasted
+  checked-keeps {k} {q} e l m =
       let i = stays-in wastedBits s at e in
-      judged e ∙ require-holds 9 (λ _. done k) i (rw (le-leb k 31 l) (lt-ltb k width m)) ∙ runAt-done k i
+      checked-then e ∙ require-holds 9 (λ _. done k) i (rw (le-leb k 31 l) (lt-ltb k width m)) ∙ runAt-done k i
 
-  judged-refuses : {k : ℕ} {q : Place} → runAt wastedBits s at ≡ gotAt k q → (leb k 31 && ltb k width) ≡ false → runAt (wastedJudged width) s at ≡ refusedAt 9
-  unfolding judge
-  judged-refuses {k} {q} e f = judged e ∙ require-fails 9 (λ _. done k) (stays-in wastedBits s at e) f
+  checked-refuses : {k : ℕ} {q : Place} → runAt wastedBits s at ≡ gotAt k q → (leb k 31 && ltb k width) ≡ false → runAt (wastedJudged width) s at ≡ refusedAt 9
+  unfolding checkWasted
+  checked-refuses {k} {q} e f = checked-then e ∙ require-fails 9 (λ _. done k) (stays-in wastedBits s at e) f
 
-  judged-short : runAt wastedBits s at ≡ shortAt → runAt (wastedJudged width) s at ≡ shortAt
-  unfolding wastedJudged judge
-  judged-short e = bind-short wastedBits s at (judge width) e
+  checked-short : runAt wastedBits s at ≡ shortAt → runAt (wastedJudged width) s at ≡ shortAt
+  unfolding wastedJudged checkWasted
+  checked-short e = bind-short wastedBits s at (checkWasted width) e
 
   pub flag-short : runAt (bits 1) s at ≡ shortAt → runAt (wastedJudged width) s at ≡ shortAt
   unfolding wastedBits
-  flag-short e = judged-short (bind-short (bits 1) s at _ e)
+  flag-short e = checked-short (bind-short (bits 1) s at _ e)
 
   module _ {v : ℕ} {p : Place} (e : runAt (bits 1) s at ≡ gotAt v p) where
-    clear : v ≡ 0 → runAt wastedBits s at ≡ gotAt 0 p
-    unfolding wastedBits counted-on flagged
-    clear f = bind-got (bits 1) s at flagged e ∙ ap (λ b. runAt (if b then done 0 else counted-on) s p) (eq-eqb v 0 f) ∙ runAt-done 0 (stays-in (bits 1) s at e)
+    flag-clear : v ≡ 0 → runAt wastedBits s at ≡ gotAt 0 p
+    unfolding wastedBits afterSetFlag afterFlag
+    flag-clear f = bind-got (bits 1) s at afterFlag e ∙ ap (λ b. runAt (if b then done 0 else afterSetFlag) s p) (eq-eqb v 0 f) ∙ runAt-done 0 (stays-in (bits 1) s at e)
 
-    set : (v ≡ 0 → ⊥) → runAt wastedBits s at ≡ runAt counted-on s p
-    unfolding wastedBits counted-on flagged
-    set f = bind-got (bits 1) s at flagged e ∙ ap (λ b. runAt (if b then done 0 else counted-on) s p) (ne-eqb v 0 f)
+    flag-set : (v ≡ 0 → ⊥) → runAt wastedBits s at ≡ runAt afterSetFlag s p
+    unfolding wastedBits afterSetFlag afterFlag
+    flag-set f = bind-got (bits 1) s at afterFlag e ∙ ap (λ b. runAt (if b then done 0 else afterSetFlag) s p) (ne-eqb v 0 f)
 
     -- no wasted bits
     pub clear-keeps : v ≡ 0 → (width ≡ 0 → ⊥) → runAt (wastedJudged width) s at ≡ gotAt 0 p
-    clear-keeps f g = judged-keeps (clear f) (omega arith) (omega arith)
+    clear-keeps f g = checked-keeps (flag-clear f) (omega arith) (omega arith)
 
     pub clear-refuses : v ≡ 0 → width ≡ 0 → runAt (wastedJudged width) s at ≡ refusedAt 9
-    clear-refuses f g = judged-refuses (clear f) (judged-false-wide 0 width (omega arith))
+    clear-refuses f g = checked-refuses (flag-clear f) (wasted-test-wide 0 width (omega arith))
 
     module _ (on : v ≡ 0 → ⊥) where
       pub run-short : runAt zeros s p ≡ shortAt → runAt (wastedJudged width) s at ≡ shortAt
-      unfolding counted-on
-      run-short g = judged-short (set on ∙ bind-short zeros s p _ g)
+      unfolding afterSetFlag
+      run-short g = checked-short (flag-set on ∙ bind-short zeros s p _ g)
 
-      -- the code has the count of the zeros, which is right up to 30
+      -- the code's count of the zeros is exact up to 30
       module _ {z c : ℕ} {q : Place} (g : runAt zeros s p ≡ gotAt z q) (o : c ≡ count z) where
-        ran : runAt wastedBits s at ≡ gotAt (z + 1) q
-        unfolding counted-on
-        ran = set on ∙ bind-got zeros s p (λ x. done (x + 1)) g ∙ runAt-done (z + 1) (stays-in zeros s p g)
+        wasted-counted : runAt wastedBits s at ≡ gotAt (z + 1) q
+        unfolding afterSetFlag
+        wasted-counted = flag-set on ∙ bind-done zeros (λ x. x + 1) s p g
 
-        few : c ≤ 30 → z ≡ c
-        few l = let h = count-at-most z 30 (omega arith) (omega arith) in omega (arith, count-few {z = z} (omega arith))
+        zeros-exact : c ≤ 30 → z ≡ c
+        zeros-exact l = let h = count-at-most z 30 (omega arith) (omega arith) in omega (arith, count-few {z = z} (omega arith))
 
         pub run-many : 30 < c → runAt (wastedJudged width) s at ≡ refusedAt 9
-        run-many l = judged-refuses ran (go (leb (z + 1) 31) refl)
+        run-many l = checked-refuses wasted-counted (go (leb (z + 1) 31) refl)
           where
             go : (b : Bool) → leb (z + 1) 31 ≡ b → (leb (z + 1) 31 && ltb (z + 1) width) ≡ false
             go true t = absurd (let h = at-most-count z 30 (omega arith) (omega (arith, leb-true (z + 1) 31 t)) in omega arith)
-            go false t = judged-false-many (z + 1) width (leb-false _ _ t)
+            go false t = wasted-test-many (z + 1) width (leb-false _ _ t)
 
         pub run-wide : c ≤ 30 → width ≤ c + 1 → runAt (wastedJudged width) s at ≡ refusedAt 9
-        run-wide l h = judged-refuses ran (judged-false-wide (z + 1) width (omega (arith, few l)))
+        run-wide l h = checked-refuses wasted-counted (wasted-test-wide (z + 1) width (omega (arith, zeros-exact l)))
 
         pub run-keeps : c ≤ 30 → c + 1 < width → runAt (wastedJudged width) s at ≡ gotAt (c + 1) q
-        run-keeps l h = let f = few l in judged-keeps ran (omega arith) (omega arith) ∙ ap (λ k. gotAt (k + 1) q) f
+        run-keeps l h = let f = zeros-exact l in checked-keeps wasted-counted (omega arith) (omega arith) ∙ ap (λ k. gotAt (k + 1) q) f
 
 -- ---- the type, then the wasted bits
 
@@ -116,14 +116,14 @@ headerOf : SubframeType → ℕ → SubframeHeader
 headerOf kind wasted = record { kind = kind; wasted = wasted }
 
 module _ (width : ℕ) where
-  wasted-then : SubframeType → Ask SubframeHeader
-  wasted-then kind = wastedJudged width >>= (λ k. done (headerOf kind k))
+  afterKind : SubframeType → Ask SubframeHeader
+  afterKind kind = wastedJudged width >>= (λ k. done (headerOf kind k))
 
-  type-then : ℕ → Ask SubframeHeader
-  type-then code = subframeType code >>= wasted-then
+  afterCode : ℕ → Ask SubframeHeader
+  afterCode code = subframeType code >>= afterKind
 
-  zero-then : ℕ → Ask SubframeHeader
-  zero-then v = require (eqb v 0) 4 >> kindAndWasted width
+  afterZeroBit : ℕ → Ask SubframeHeader
+  afterZeroBit v = require (eqb v 0) 4 >> kindAndWasted width
 
   module _ (s : List ℕ) (at : Place) where
     pub code-short : runAt (bits 6) s at ≡ shortAt → runAt (kindAndWasted width) s at ≡ shortAt
@@ -131,25 +131,25 @@ module _ (width : ℕ) where
     code-short e = bind-short (bits 6) s at _ e
 
     module _ {code : ℕ} {p : Place} (e : runAt (bits 6) s at ≡ gotAt code p) where
-      typed : {x : Ask SubframeType} → x ≡ subframeType code → runAt (kindAndWasted width) s at ≡ runAt (x >>= wasted-then) s p
-      unfolding kindAndWasted type-then wasted-then headerOf
-      typed f = bind-got (bits 6) s at type-then e ∙ ap (λ t. runAt (t >>= wasted-then) s p) (sym f)
+      kind-then : {x : Ask SubframeType} → x ≡ subframeType code → runAt (kindAndWasted width) s at ≡ runAt (x >>= afterKind) s p
+      unfolding kindAndWasted afterCode afterKind headerOf
+      kind-then f = bind-got (bits 6) s at afterCode e ∙ ap (λ t. runAt (t >>= afterKind) s p) (sym f)
 
       pub type-reserved : stop 4 ≡ subframeType code → runAt (kindAndWasted width) s at ≡ refusedAt 4
       unfolding _>>=_
-      type-reserved f = typed f ∙ runAt-stop 4 (stays-in (bits 6) s at e)
+      type-reserved f = kind-then f ∙ runAt-stop 4 (stays-in (bits 6) s at e)
 
       module _ {kind : SubframeType} (f : done kind ≡ subframeType code) where
-        known : runAt (kindAndWasted width) s at ≡ runAt (wastedJudged width >>= (λ k. done (headerOf kind k))) s p
-        unfolding _>>=_ wasted-then
-        known = typed f
+        known-kind : runAt (kindAndWasted width) s at ≡ runAt (wastedJudged width >>= (λ k. done (headerOf kind k))) s p
+        unfolding _>>=_ afterKind
+        known-kind = kind-then f
 
         pub known-got : {k : ℕ} {q : Place} → runAt (wastedJudged width) s p ≡ gotAt k q → runAt (kindAndWasted width) s at ≡ gotAt (record { kind = kind; wasted = k }) q
         unfolding headerOf
-        known-got {k} g = known ∙ bind-got (wastedJudged width) s p (λ x. done (headerOf kind x)) g ∙ runAt-done (headerOf kind k) (stays-in (wastedJudged width) s p g)
+        known-got g = known-kind ∙ bind-done (wastedJudged width) (headerOf kind) s p g
 
         pub known-stops : (x : Refusal) → runAt (wastedJudged width) s p ≡ refusedBy x → runAt (kindAndWasted width) s at ≡ refusedBy x
-        known-stops x g = known ∙ bind-refusal (wastedJudged width) s p _ x g
+        known-stops x g = known-kind ∙ bind-refusal (wastedJudged width) s p _ x g
 
     -- ---- the zero bit before them
 
@@ -158,22 +158,22 @@ module _ (width : ℕ) where
     zero-short e = bind-short (bits 1) s at _ e
 
     module _ {v : ℕ} {p : Place} (e : runAt (bits 1) s at ≡ gotAt v p) where
-      past-zero : runAt (subframeHeader width) s at ≡ runAt (zero-then v) s p
-      unfolding subframeHeader zero-then
-      past-zero = bind-got (bits 1) s at zero-then e
+      after-zero-bit : runAt (subframeHeader width) s at ≡ runAt (afterZeroBit v) s p
+      unfolding subframeHeader afterZeroBit
+      after-zero-bit = bind-got (bits 1) s at afterZeroBit e
 
       pub zero-not : (v ≡ 0 → ⊥) → runAt (subframeHeader width) s at ≡ refusedAt 4
-      unfolding zero-then
-      zero-not f = past-zero ∙ require-fails 4 (λ _. kindAndWasted width) (stays-in (bits 1) s at e) (ne-eqb v 0 f)
+      unfolding afterZeroBit
+      zero-not f = after-zero-bit ∙ require-fails 4 (λ _. kindAndWasted width) (stays-in (bits 1) s at e) (ne-eqb v 0 f)
 
       pub zero-is : v ≡ 0 → runAt (subframeHeader width) s at ≡ runAt (kindAndWasted width) s p
-      unfolding zero-then
-      zero-is f = past-zero ∙ require-holds 4 (λ _. kindAndWasted width) (stays-in (bits 1) s at e) (eq-eqb v 0 f)
+      unfolding afterZeroBit
+      zero-is f = after-zero-bit ∙ require-holds 4 (λ _. kindAndWasted width) (stays-in (bits 1) s at e) (eq-eqb v 0 f)
 
 -- ---- the precision and the shift
 
-shift-then : ℕ → ℕ → Ask Quantization
-shift-then precision shift = require (ltb shift 16) 8 >> done (precision + 1, shift)
+afterShift : ℕ → ℕ → Ask Quantization
+afterShift precision shift = require (ltb shift 16) 8 >> done (precision + 1, shift)
 
 module _ (s : List ℕ) (at : Place) where
   pub precision-short : runAt (bits 4) s at ≡ shortAt → runAt quantization s at ≡ shortAt
@@ -186,23 +186,23 @@ module _ (s : List ℕ) (at : Place) where
     precision-reserved f = bind-got (bits 4) s at _ e ∙ require-fails 4 _ (stays-in (bits 4) s at e) (le-ltb precision 15 (omega arith))
 
     module _ (l : precision < 15) where
-      past-precision : runAt quantization s at ≡ runAt (bits 5 >>= shift-then precision) s p
-      unfolding quantization shift-then
-      past-precision = bind-got (bits 4) s at _ e ∙ require-holds 4 (λ _. bits 5 >>= shift-then precision) (stays-in (bits 4) s at e) (lt-ltb precision 15 l)
+      after-precision : runAt quantization s at ≡ runAt (bits 5 >>= afterShift precision) s p
+      unfolding quantization afterShift
+      after-precision = bind-got (bits 4) s at _ e ∙ require-holds 4 (λ _. bits 5 >>= afterShift precision) (stays-in (bits 4) s at e) (lt-ltb precision 15 l)
 
       pub shift-short : runAt (bits 5) s p ≡ shortAt → runAt quantization s at ≡ shortAt
-      shift-short g = past-precision ∙ bind-short (bits 5) s p (shift-then precision) g
+      shift-short g = after-precision ∙ bind-short (bits 5) s p (afterShift precision) g
 
       module _ {shift : ℕ} {q : Place} (g : runAt (bits 5) s p ≡ gotAt shift q) where
-        past-shift : runAt quantization s at ≡ runAt (shift-then precision shift) s q
-        past-shift = past-precision ∙ bind-got (bits 5) s p (shift-then precision) g
+        after-shift : runAt quantization s at ≡ runAt (afterShift precision shift) s q
+        after-shift = after-precision ∙ bind-got (bits 5) s p (afterShift precision) g
 
         pub shift-negative : 16 ≤ shift → runAt quantization s at ≡ refusedAt 8
-        unfolding shift-then
-        shift-negative h = past-shift ∙ require-fails 8 (λ _. done (precision + 1, shift)) (stays-in (bits 5) s p g) (le-ltb shift 16 h)
+        unfolding afterShift
+        shift-negative h = after-shift ∙ require-fails 8 (λ _. done (precision + 1, shift)) (stays-in (bits 5) s p g) (le-ltb shift 16 h)
 
         pub quantization-known : shift < 16 → runAt quantization s at ≡ gotAt (precision + 1, shift) q
-        unfolding shift-then
+        unfolding afterShift
         quantization-known h =
             let i = stays-in (bits 5) s p g in
-            past-shift ∙ require-holds 8 (λ _. done (precision + 1, shift)) i (lt-ltb shift 16 h) ∙ runAt-done (precision + 1, shift) i
+            after-shift ∙ require-holds 8 (λ _. done (precision + 1, shift)) i (lt-ltb shift 16 h) ∙ runAt-done (precision + 1, shift) i

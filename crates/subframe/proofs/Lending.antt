@@ -1,7 +1,5 @@
--- Parts `&mut out[a..e]` of a lent slice that are handed to a decoder and come back, and a decoder's answer that is used
--- or passed on. Assumes nothing.
+-- Parts of a slice that are lent to a decoder, and what the decoder's answer says of the definition. Assumes nothing.
 use Prim.Native.Nat.{ℕ, _-_, _≤_}
-use native.Mathlib.Nat.{le-refl}
 use native.Mathlib.Omega.{arith}
 use mathlib.Core.Path.{_≡_, refl, ap, sym, _∙_}
 use mathlib.Core.Bool.{Bool, true, false, cond}
@@ -24,32 +22,33 @@ use Rattle.subframe.specs.Answers.{means}
 
 -- ---- a decoder's answer
 
--- what was left, by what a match found of the answer
-module _ {x : At (List ℤ)} {r : Decoded} (l : List ℤ) (told : means r l ≡ x) where
+-- what a function answered, by what a match found of it
+pub answer-is : {A B : Type 0} (f : A → B) {x : B} {r r′ : A} → f r ≡ x → r ≡ r′ → x ≡ f r′
+answer-is f says e = sym says ∙ ap f e
+
+module _ {x : At (List ℤ)} {r : Decoded} (l : List ℤ) (says : means r l ≡ x) where
   pub done-is : {p : Place} → r ≡ Done p → x ≡ gotAt l p
-  done-is e = sym told ∙ ap (λ d. means d l) e
+  done-is e = answer-is (λ d. means d l) says e
 
   pub refused-is : {e : Refusal} → r ≡ Refused e → x ≡ refusedBy e
-  refused-is e = sym told ∙ ap (λ d. means d l) e
+  refused-is e = answer-is (λ d. means d l) says e
 
--- a refusal is passed on, whatever stands in the slice then
+-- a refusal is returned, whatever the slice holds
 module _ (p : Ask (List ℤ)) (s : List ℕ) (at : Place) (k : List ℤ → Ask (List ℤ)) where
   pub passed-on : {r : Decoded} {e : Refusal} (l : List ℤ) → means r l ≡ runAt p s at → r ≡ Refused e → (left : List ℤ) → means r left ≡ runAt (p >>= k) s at
-  passed-on {e = e} l told d left = ap (λ x. means x left) d ∙ sym (bind-refusal p s at k e (refused-is l told d))
+  passed-on {e = e} l says d left = ap (λ x. means x left) d ∙ sym (bind-refusal p s at k e (refused-is l says d))
 
--- one reader, then a decoder, and what both give
-module _ {A : Type 0} (p : Ask A) (q : Ask (List ℤ)) (g : A → List ℤ → List ℤ) (s : List ℕ) (at : Place) {a : A} {at′ : Place} (first : runAt p s at ≡ gotAt a at′) where
-  pub second-done : {l : List ℤ} {end : Place} → runAt q s at′ ≡ gotAt l end → gotAt (g a l) end ≡ runAt (p >>= (λ x. q >>= (λ y. done (g x y)))) s at
-  second-done {l} {end} h =
-      sym
-      (bind-got p s at (λ x. q >>= (λ y. done (g x y))) first ∙ bind-got q s at′ (λ y. done (g a y)) h ∙ runAt-done (g a l) (stays-in q s at′ h))
+-- a reader, then a function of what it got
+pub bind-done : {A B : Type 0} (p : Ask A) (g : A → B) (s : List ℕ) (at : Place) {a : A} {at′ : Place} → runAt p s at ≡ gotAt a at′
+    → runAt (p >>= (λ x. done (g x))) s at ≡ gotAt (g a) at′
+bind-done p g s at {a} e = bind-got p s at (λ x. done (g x)) e ∙ runAt-done (g a) (stays-in p s at e)
 
-  pub second-refused : {r : Decoded} {e : Refusal} (l : List ℤ) → means r l ≡ runAt q s at′ → r ≡ Refused e → (left : List ℤ)
-      → means r left ≡ runAt (p >>= (λ x. q >>= (λ y. done (g x y)))) s at
-  second-refused l told d left =
-      passed-on q s at′ (λ y. done (g a y)) l told d left ∙ sym (bind-got p s at (λ x. q >>= (λ y. done (g x y))) first)
+-- a decoder, then a function of the samples that it left
+pub then-done : (p : Ask (List ℤ)) (g : List ℤ → List ℤ) (s : List ℕ) (at : Place) {r : Decoded} (l : List ℤ) → means r l ≡ runAt p s at
+    → {q : Place} {left : List ℤ} → r ≡ Done q → left ≡ g l → gotAt left q ≡ runAt (p >>= (λ x. done (g x))) s at
+then-done p g s at l says {q} e f = ap (λ t. gotAt t q) f ∙ sym (bind-done p g s at (done-is l says e))
 
--- what was read before goes in front of what a decoder left
+-- what was read before, in front of what a decoder left
 pub behind-refusal : {A : Type 0} (xs : List A) (e : Refusal) → behind xs (refusedBy e) ≡ refusedBy e
 unfolding behind
 behind-refusal {A} xs e = go (eqb (numberOf e) 2)
@@ -63,22 +62,19 @@ unfolding behind
 behind-means xs (Done p) l = refl
 behind-means xs (Refused e) l = behind-refusal xs e
 
--- ---- one part from a to e, v put back into its place
+-- ---- the part from a to e, replaced by v
 
 module _ {A : Type 0} (a e : ℕ) (l : List A) (h : e ≤ length l) where
-  -- the reader of as many as the part has
+  -- a reader of as many as the part has
   pub part-size : {B : Type 0} (p : ℕ → B) → p (length (midOf a (e - a) l)) ≡ p (e - a)
   part-size p = ap p (mid-len a e l h)
 
   module _ (v : List A) (g : a ≤ e) (kept : length v ≡ length (midOf a (e - a) l)) where
-    -- up to its end
+    -- the slice up to the end of the part
     pub part-taken : take e (putMid a (e - a) l v) ≡ take a l ++ v
     part-taken =
         ap (take e) (sym (append-assoc (take a l) v (postOf a (e - a) l)))
         ∙ take-at (take a l ++ v) (postOf a (e - a) l) e (omega (arith, length-append (take a l) v, length-take-le a l (omega arith), kept, mid-len a e l h))
-
-    pub part-put : putMid a (e - a) l v ≡ take a l ++ (v ++ drop e l)
-    part-put = ap (λ t. take a l ++ (v ++ t)) (post-is a e l g)
 
 -- ---- the first m, and the rest
 
@@ -86,13 +82,22 @@ module _ {A : Type 0} (m : ℕ) (l : List A) (h : m ≤ length l) where
   pub first-size : {B : Type 0} (p : ℕ → B) → p (length (take m l)) ≡ p m
   first-size p = ap p (length-take-le m l h)
 
-  pub rest-size : {B : Type 0} (p : ℕ → B) → p (length (midOf m (length l - m) l)) ≡ p (length l - m)
-  rest-size p = part-size m (length l) l (le-refl (length l)) p
-
   pub rest-put : (w : List A) → putMid m (length l - m) l w ≡ take m l ++ w
   rest-put w = ap (λ (t : List A). take m l ++ t) (ap (λ (t : List A). w ++ t) (post-is m (length l) l h ∙ drop-length l) ∙ append-nil w)
 
--- both: v in the first m, and then w in the rest
+-- the first m are lent to a decoder that reads as many as it is lent
+module _ (f : ℕ → Ask (List ℤ)) (s : List ℕ) (at : Place) (m : ℕ) (l : List ℤ) (h : m ≤ length l) {r : Decoded} (v : List ℤ)
+    (says : means r v ≡ runAt (f (length (take m l))) s at) where
+  pub front-got : {p : Place} → r ≡ Done p → runAt (f m) s at ≡ gotAt v p
+  front-got e = sym (first-size m l h (λ n. runAt (f n) s at)) ∙ done-is v says e
+
+  pub front-stops : (k : List ℤ → Ask (List ℤ)) {e : Refusal} → r ≡ Refused e → (left : List ℤ) → means r left ≡ runAt (f m >>= k) s at
+  front-stops k d left = passed-on (f m) s at k v (says ∙ first-size m l h (λ n. runAt (f n) s at)) d left
+
+  pub front-then : (k : List ℤ → Ask (List ℤ)) {p : Place} → r ≡ Done p → runAt (k v) s p ≡ runAt (f m >>= k) s at
+  front-then k e = sym (bind-got (f m) s at k (front-got e))
+
+-- the first m replaced by v, then the rest by w
 module _ {A : Type 0} (m : ℕ) (l : List A) (h : m ≤ length l) (v : List A) (kept : length v ≡ length (take m l)) where
   first-long : length v ≡ m
   first-long = kept ∙ length-take-le m l h
@@ -103,17 +108,14 @@ module _ {A : Type 0} (m : ℕ) (l : List A) (h : m ≤ length l) (v : List A) (
   pub first-dropped : (w : List A) → drop m (v ++ w) ≡ w
   first-dropped w = drop-at v w m first-long
 
-  abbrev between : List A
-  between = v ++ drop m l
+  abbrev frontReplaced : List A
+  frontReplaced = v ++ drop m l
 
-  pub between-long : length between ≡ length l
+  pub between-long : length frontReplaced ≡ length l
   between-long = length-front l v m kept
 
-  within : m ≤ length between
+  within : m ≤ length frontReplaced
   within = omega (arith, between-long)
 
-  pub both-size : {B : Type 0} (p : ℕ → B) → p (length (midOf m (length between - m) between)) ≡ p (length l - m)
-  both-size p = rest-size m between within p ∙ ap (λ n. p (n - m)) between-long
-
-  pub both-put : (w : List A) → putMid m (length between - m) between w ≡ v ++ w
-  both-put w = rest-put m between within w ∙ ap (λ (t : List A). t ++ w) (first-taken (drop m l))
+  pub both-put : (w : List A) → putMid m (length frontReplaced - m) frontReplaced w ≡ v ++ w
+  both-put w = rest-put m frontReplaced within w ∙ ap (λ (t : List A). t ++ w) (first-taken (drop m l))

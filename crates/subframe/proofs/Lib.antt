@@ -1,4 +1,4 @@
--- Laws for the proofs of the decoders, and that `decode` has one outcome.
+-- Laws for the proofs of this crate, and that `decode` has one outcome.
 pub mod Lending
 pub mod Filling
 pub mod Sampling

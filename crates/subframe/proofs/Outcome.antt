@@ -1,5 +1,4 @@
--- The contract settles the outcome: any two answers, with the samples that they left, that meet it are equal.
--- Assumes nothing.
+-- One outcome: any two answers of `decode`, with the samples left, that meet its contract are equal. Assumes nothing.
 use Prim.Native.Nat.{ℕ}
 use mathlib.Core.Path.{_≡_, ap}
 use mathlib.Core.List.{List}

@@ -1,4 +1,4 @@
--- A partition by its parameter, and partitions one after the other into parts of the lent slice. Assumes nothing.
+-- Partitions of a residual: one by its parameter, and all, each into its part of the slice. Assumes nothing.
 use Prim.Native.Nat.{ℕ, suc, _+_, _-_, _*_, _%_, _^_, _≤_, _<_}
 use native.Mathlib.Nat.{mod-eq-of-lt, lt-of-le-of-lt, lt-of-lt-of-le, suc-mul}
 use native.Mathlib.Omega.{arith}
@@ -27,25 +27,25 @@ use Rattle.subframe.specs.declared.Decoded.{Decoded}
 use Rattle.subframe.specs.declared.Decoded.the-variants.{Done, Refused}
 use Rattle.subframe.specs.Answers.{means}
 use Rattle.error.proofs.Passing.{bind-refusal}
-use Rattle.subframe.proofs.Lending.{done-is, refused-is, passed-on, behind-refusal, behind-means, part-size, part-taken}
+use Rattle.subframe.proofs.Lending.{done-is, refused-is, behind-refusal, behind-means, part-size, part-taken}
 
 -- ---- a partition
 
--- the code's power is the definition's
-pub parameters : (method : ℕ) → method < 2 → (16 * 2 ^ method) % 2 ^ 64 ≡ 2 ^ (4 + method)
-parameters method h =
+-- the code's power of two is the definition's
+pub parameter-count : (method : ℕ) → method < 2 → (16 * 2 ^ method) % 2 ^ 64 ≡ 2 ^ (4 + method)
+parameter-count method h =
     let few : 2 ^ (4 + method) ≤ 2 ^ 5 = pow-mono {i = 4 + method} {j = 5} (omega arith) in
     let e : 16 * 2 ^ method ≡ 2 ^ (4 + method) = sym (pow-add 2 4 method) in
     ap (λ x. x % 2 ^ 64) e ∙ mod-eq-of-lt (lt-of-le-of-lt few (lit< tt))
 
-module _ (method n : ℕ) (s : List ℕ) (at : Place) (h : method < 2) {r : Bits} (told : Input.means r ≡ low64 (runAt (bits (4 + method)) s at)) where
+module _ (method n : ℕ) (s : List ℕ) (at : Place) (h : method < 2) {r : Bits} (says : Input.means r ≡ low64 (runAt (bits (4 + method)) s at)) where
   pub no-parameter : r ≡ Short → shortAt ≡ runAt (partition method n) s at
   unfolding partition
-  no-parameter e = sym (bind-short (bits (4 + method)) s at (λ k. coded method k n) (read-short (4 + method) s at (omega arith) told e))
+  no-parameter e = sym (bind-short (bits (4 + method)) s at (λ k. coded method k n) (read-short (4 + method) s at (omega arith) says e))
 
   module _ {k : ℕ} {p : Place} (e : r ≡ Value k p) where
     got : runAt (bits (4 + method)) s at ≡ gotAt k p
-    got = read-got (4 + method) s at (omega arith) told e
+    got = read-got (4 + method) s at (omega arith) says e
 
     pub parameter-below : k < 2 ^ 5
     parameter-below = lt-of-lt-of-le (bits-below (4 + method) s at got) (pow-mono {i = 4 + method} {j = 5} (omega arith))
@@ -55,7 +55,7 @@ module _ (method n : ℕ) (s : List ℕ) (at : Place) (h : method < 2) {r : Bits
     partition-as-is f =
         sym
         (bind-got (bits (4 + method)) s at (λ k. coded method k n) got
-        ∙ rw (eq-eqb k (2 ^ (4 + method) - 1) (f ∙ ap (λ x. x - 1) (parameters method h))) (runAt-stop 8 (stays-in (bits (4 + method)) s at got)))
+        ∙ rw (eq-eqb k (2 ^ (4 + method) - 1) (f ∙ ap (λ x. x - 1) (parameter-count method h))) (runAt-stop 8 (stays-in (bits (4 + method)) s at got)))
 
     pub partition-coded : (k ≡ (16 * 2 ^ method) % 2 ^ 64 - 1 → ⊥) → {x : At (List ℤ)} → x ≡ runAt (many n (rice k)) s p → x ≡ runAt (partition method n) s at
     unfolding partition coded
@@ -63,7 +63,7 @@ module _ (method n : ℕ) (s : List ℕ) (at : Place) (h : method < 2) {r : Bits
         g
         ∙ sym
         (bind-got (bits (4 + method)) s at (λ k. coded method k n) got
-        ∙ rw (ne-eqb k (2 ^ (4 + method) - 1) (λ d. f (d ∙ ap (λ x. x - 1) (sym (parameters method h))))))
+        ∙ rw (ne-eqb k (2 ^ (4 + method) - 1) (λ d. f (d ∙ ap (λ x. x - 1) (sym (parameter-count method h))))))
 
 -- ---- the first of some parts, then the others
 
@@ -72,16 +72,12 @@ module _ (f : ℕ → Ask (List ℤ)) (n : ℕ) (ns : List ℕ) (s : List ℕ) (
   unfolding each
   first-refused e h = bind-refusal (f n) s at _ e h
 
-  pub first-stops : {r : Decoded} {e : Refusal} (l : List ℤ) → means r l ≡ runAt (f n) s at → r ≡ Refused e → (left : List ℤ) → means r left ≡ runAt (each f (n ∷ ns)) s at
-  unfolding each
-  first-stops l told d left = passed-on (f n) s at _ l told d left
-
   pub first-then : {v : List ℤ} {p : Place} → runAt (f n) s at ≡ gotAt v p → (r : Decoded) (w : List ℤ) → means r w ≡ runAt (each f ns) s p
       → means r (v ++ w) ≡ runAt (each f (n ∷ ns)) s at
   first-then {v} h r w g =
       sym (sym (behind-nil (runAt (each f (n ∷ ns)) s at)) ∙ each-step f s [] at n ns h ∙ ap (behind v) (sym g) ∙ behind-means v r w)
 
--- ---- a loop over parts of one size: `left` of them are still to be read, from `start` on
+-- ---- a loop over parts of one size: `left` of them are still to be read, starting at `start`
 
 pub record Parted (f : ℕ → Ask (List ℤ)) (size count : ℕ) (s : List ℕ) (at₀ : Place) (l₀ l : List ℤ) (start left : ℕ) (at : Place) : Type 0 where
   pub place : In s at
@@ -108,7 +104,7 @@ module _ {f : ℕ → Ask (List ℤ)} {size count : ℕ} {s : List ℕ} {at₀ :
         inv .same
         ∙ ap (λ n. behind (take start l) (runAt (each f (replicate n size)) s at)) (let e : left ≡ suc (left - 1) = omega arith in e)
 
-    -- with the part back the slice is as long as it came
+    -- the slice keeps its length
     pub part-back : (v : List ℤ) → length v ≡ length (midOf start part l) → length (putMid start part l v) ≡ length l₀
     part-back v kept = same-len-mid start part l v kept ∙ inv .long
 
@@ -117,12 +113,12 @@ module _ {f : ℕ → Ask (List ℤ)} {size count : ℕ} {s : List ℕ} {at₀ :
         part-size start (start + size) l room (λ n. runAt (f n) s at)
         ∙ ap (λ n. runAt (f n) s at) (let e : start + size - start ≡ size = omega arith in e)
 
-    -- by what the decoder of the part answered and left
-    module _ {r : Decoded} (v : List ℤ) (told : means r v ≡ runAt (f (length (midOf start part l))) s at) where
+    -- a turn and the way out, by what the decoder of the part answered and left
+    module _ {r : Decoded} (v : List ℤ) (says : means r v ≡ runAt (f (length (midOf start part l))) s at) where
       pub step : {q : Place} → r ≡ Done q → length v ≡ length (midOf start part l)
           → Parted f size count s at₀ l₀ (putMid start part l v) (start + size) (left - 1) q
       step {q} e kept =
-          let got = sym ran ∙ done-is v told e in
+          let got = sym ran ∙ done-is v says e in
           let back = part-back v kept in
           record {
             place = stays-in (f size) s at got;
@@ -136,7 +132,7 @@ module _ {f : ℕ → Ask (List ℤ)} {size count : ℕ} {s : List ℕ} {at₀ :
       pub stops : {e : Refusal} → r ≡ Refused e → refusedBy e ≡ runAt (each f (replicate count size)) s at₀
       stops {e} d =
           sym
-          (next ∙ ap (behind (take start l)) (first-refused f size (replicate (left - 1) size) s at e (sym ran ∙ refused-is v told d)) ∙ behind-refusal (take start l) e)
+          (next ∙ ap (behind (take start l)) (first-refused f size (replicate (left - 1) size) s at e (sym ran ∙ refused-is v says d)) ∙ behind-refusal (take start l) e)
 
   pub end : left ≤ 0 → gotAt l at ≡ runAt (each f (replicate count size)) s at₀
   end h =

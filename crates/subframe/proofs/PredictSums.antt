@@ -1,4 +1,4 @@
--- Sums of products over the latest samples. Assumes nothing.
+-- The sums of prediction: coefficients times the latest samples. Assumes nothing.
 use Prim.Native.Nat.{ℕ, zero, suc, _+_, _-_, _^_, _≤_, _<_}
 use native.Mathlib.Nat.{sub-zero}
 use native.Mathlib.Numerals.{add-one}
@@ -18,7 +18,7 @@ use mir.Facts.{toZ-ofZ}
 use Rattle.number.specs.Private.{Small}
 use Rattle.number.proofs.Sizes.{Dotted, room, coefficient, step, sample-fits}
 use Rattle.rfc9639.specs.Prediction.{dot, fixedCoefficients}
-use Rattle.subframe.specs.Private.{padded}
+use Rattle.subframe.specs.Private.{withZeros, Predictable}
 
 -- ---- the latest sample first
 
@@ -40,7 +40,7 @@ reverse-at (x ∷ l) j h = ap (λ (r : List ℤ). getD r j (pos 0)) (reverse-con
 
 -- ---- sums of products
 
--- what lies behind as many samples as there are coefficients does not count
+-- samples past the number of coefficients do not count
 dot-front : (acc : ℤ) (cs xs ys : List ℤ) → length cs ≤ length xs → dot acc cs (xs ++ ys) ≡ dot acc cs xs
 unfolding dot
 dot-front acc [] xs ys h = refl
@@ -53,7 +53,7 @@ dot-zeros acc zero xs = refl
 dot-zeros acc (suc n) [] = refl
 dot-zeros acc (suc n) (x ∷ xs) = dot-zeros (acc +ℤ pos 0 *ℤ x) n xs ∙ ap (λ (z : ℤ). acc +ℤ z) (zero-*ℤ x) ∙ +ℤ-idr acc
 
--- zeros behind the coefficients add nothing
+-- zeros after the coefficients add nothing
 dot-padded : (acc : ℤ) (n : ℕ) (cs xs : List ℤ) → dot acc (cs ++ replicate n (pos 0)) xs ≡ dot acc cs xs
 unfolding dot
 dot-padded acc n [] xs = dot-zeros acc n xs
@@ -68,7 +68,7 @@ small-padded : (b n : ℕ) (cs : List ℤ) → 0 < b → Small b cs → Small b 
 small-padded b n [] h s = small-zeros b n h
 small-padded b n (c ∷ cs) h s = (s .0, small-padded b n cs h (s .1))
 
--- of i samples the latest m, where no more are asked for
+-- the latest m of i samples are enough for m coefficients
 dot-latest : (cs l : List ℤ) (m i : ℕ) → length cs ≤ m → m ≤ i → i ≤ length l
     → dot (pos 0) cs (reverse (take (i - (i - m)) (drop (i - m) l))) ≡ dot (pos 0) cs (reverse (take i l))
 dot-latest cs l m i h k g =
@@ -83,26 +83,26 @@ dot-latest cs l m i h k g =
     late : List ℤ
     late = take (i - (i - m)) (drop (i - m) l)
 
--- ---- a loop over the products, as the functions have it: a signed value is handed on by its bits
+-- ---- a loop over the products; the code passes a signed value by its bits
 
-module _ (cs before : List ℤ) {acc j : ℕ} (inv : Dotted cs (reverse before) acc j) (few : length cs ≤ 32) (long : length cs ≤ length before)
-    (small : Small (2 ^ 15) cs) (l : j < length cs) (c : SFits w32 (getD cs j (pos 0))) where
+module _ (cs before : List ℤ) {acc j : ℕ} (inv : Dotted cs (reverse before) acc j) (fit : Predictable 32 cs before) (l : j < length cs)
+    (c : SFits w32 (getD cs j (pos 0))) where
   enough : length cs ≤ length (reverse before)
   enough = omega (arith, length-reverse before)
 
-  pub asks : (natAbs (toZ w64 acc) < 2 ^ 62) × (natAbs (toZ w32 (ofZ w32 (getD cs j (pos 0)))) < 2 ^ 15)
-  asks = (room inv few, rw (toZ-ofZ c) (coefficient inv few enough small l))
+  pub mul-add-asks : (natAbs (toZ w64 acc) < 2 ^ 62) × (natAbs (toZ w32 (ofZ w32 (getD cs j (pos 0)))) < 2 ^ 15)
+  mul-add-asks = (room inv (fit .0), rw (toZ-ofZ c) (coefficient inv (fit .0) enough (fit .2) l))
 
   pub turn : (k : ℕ) → k ≡ length before - 1 - j → SFits w32 (getD before k (pos 0)) → (r : ℤ)
       → r ≡ toZ w64 acc +ℤ toZ w32 (ofZ w32 (getD cs j (pos 0))) *ℤ toZ w32 (ofZ w32 (getD before k (pos 0))) → SFits w64 r
       → Dotted cs (reverse before) (ofZ w64 r) (j + 1)
   turn k e f r h g =
-      step inv few enough small l r (h ∙ ap₂ (λ (a b : ℤ). toZ w64 acc +ℤ a *ℤ b) (toZ-ofZ c) (toZ-ofZ f ∙ sym there)) (rw there (sample-fits f)) g
+      step inv (fit .0) enough (fit .2) l r (h ∙ ap₂ (λ (a b : ℤ). toZ w64 acc +ℤ a *ℤ b) (toZ-ofZ c) (toZ-ofZ f ∙ sym there)) (rw there (sample-fits f)) g
     where
       there : getD (reverse before) j (pos 0) ≡ getD before k (pos 0)
       there = reverse-at before j (omega arith) ∙ ap (λ n. getD before n (pos 0)) (sym e)
 
--- ---- zeros behind the coefficients: the first j are put down
+-- ---- the coefficients padded with zeros, of which the first j are stored
 
 pub record Padding (n : ℕ) (cs l : List ℤ) (j : ℕ) : Type 0 where
   pub within : j ≤ length cs
@@ -125,26 +125,26 @@ module _ {n : ℕ} {cs l : List ℤ} {j : ℕ} (inv : Padding n cs l j) where
       c : ℤ
       c = getD cs j (pos 0)
 
-  pub pad-end : length cs ≤ j → l ≡ padded n cs
+  pub pad-end : length cs ≤ j → l ≡ withZeros n cs
   pad-end h =
       inv .same ∙ ap₂ (λ (t : List ℤ) m. t ++ replicate m (pos 0)) (take-all j cs h) (let e : n - j ≡ n - length cs = omega (arith, inv .within) in e)
 
--- m taps and the latest m of i samples make the coefficients' sum
-module _ (m : ℕ) (cs taps l : List ℤ) (i : ℕ) (few : length cs ≤ m) (is : taps ≡ padded m cs) (h : m ≤ i) (g : i ≤ length l) where
-  size : length taps ≡ m
-  size =
+-- m taps and the latest m of i samples give the coefficients' sum
+module _ (m : ℕ) (cs taps l : List ℤ) (i : ℕ) (few : length cs ≤ m) (is : taps ≡ withZeros m cs) (h : m ≤ i) (g : i ≤ length l) where
+  taps-length : length taps ≡ m
+  taps-length =
       ap length is ∙ length-append cs (replicate (m - length cs) (pos 0)) ∙ ap (λ n. length cs + n) (length-replicate (m - length cs) (pos 0))
       ∙ (let e : length cs + (m - length cs) ≡ m = omega arith in e)
 
   pub taps-ask : Small (2 ^ 15) cs → (length taps ≡ m) × (m ≤ length (take (i - (i - m)) (drop (i - m) l))) × Small (2 ^ 15) taps
-  taps-ask s = (size, omega (arith, mid-len (i - m) i l g), rw is (small-padded (2 ^ 15) (m - length cs) cs (lit< tt) s))
+  taps-ask s = (taps-length, omega (arith, mid-len (i - m) i l g), rw is (small-padded (2 ^ 15) (m - length cs) cs (lit< tt) s))
 
   pub taps-sum : dot (pos 0) taps (reverse (take (i - (i - m)) (drop (i - m) l))) ≡ dot (pos 0) cs (reverse (take i l))
   taps-sum =
-      dot-latest taps l m i (omega (arith, size)) h g ∙ ap (λ (t : List ℤ). dot (pos 0) t (reverse (take i l))) is
+      dot-latest taps l m i (omega (arith, taps-length)) h g ∙ ap (λ (t : List ℤ). dot (pos 0) t (reverse (take i l))) is
       ∙ dot-padded (pos 0) (m - length cs) cs (reverse (take i l))
 
--- ---- the coefficients of each order
+-- ---- the coefficients of each fixed order: as many as the order, and small
 
 pub fixed-row : (order : ℕ) → order ≤ 4 → (length (fixedCoefficients order) ≡ order) × Small (2 ^ 15) (fixedCoefficients order)
 unfolding fixedCoefficients

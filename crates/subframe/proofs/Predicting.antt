@@ -1,4 +1,4 @@
--- A block that is restored in place, sample by sample. Assumes nothing.
+-- Prediction in place: a block restored sample by sample. Assumes nothing.
 use Prim.Native.Nat.{ℕ, suc, _+_, _≤_, _<_}
 use native.Mathlib.Numerals.{add-one}
 use native.Mathlib.Omega.{arith}
@@ -13,11 +13,11 @@ use mir.Facts.{toZ-ofZ}
 use Rattle.rfc9639.specs.Integers.{wrapped, shiftDown}
 use Rattle.rfc9639.specs.Prediction.{dot, predicted, restored, predict}
 
--- the block, where the first i samples are done and the residual is behind them
+-- the block of a slice that holds its first i samples, then the residual
 unfoldable pub resumed : List ℤ → ℕ → List ℤ → ℕ → List ℤ
 resumed cs shift l i = take i l ++ restored cs shift (reverse (take i l)) (drop i l)
 
--- a slice that held l₀ as i₀ samples were done holds l, and i are done
+-- a slice that held i₀ samples in l₀ holds i samples in l
 pub record Restored (cs : List ℤ) (shift : ℕ) (l₀ : List ℤ) (i₀ : ℕ) (l : List ℤ) (i : ℕ) : Type 0 where
   pub least : i₀ ≤ i
   pub within : i ≤ length l
@@ -43,7 +43,7 @@ module _ {cs : List ℤ} {shift : ℕ} {l₀ : List ℤ} {i₀ : ℕ} {l : List 
         ∙ ap (λ n. take n (set l i z) ++ restored cs shift (reverse (take n (set l i z))) (drop n (set l i z))) (sym (add-one i));
   }
 
-  -- as the functions have it: a signed value is handed on by its bits
+  -- the code passes a signed value by its bits
   pub turn : (sum z : ℤ) → i < length l → sum ≡ dot (pos 0) cs (reverse (take i l))
       → z ≡ wrapped 32 (shiftDown shift (toZ w64 (ofZ w64 sum)) +ℤ toZ w32 (ofZ w32 (getD l i (pos 0))))
       → SFits w64 sum → SFits w32 (getD l i (pos 0)) → SFits w32 z → Restored cs shift l₀ i₀ (set l i (toZ w32 (ofZ w32 z))) (i + 1)
@@ -59,7 +59,7 @@ module _ {cs : List ℤ} {shift : ℕ} {l₀ : List ℤ} {i₀ : ℕ} {l : List 
       none : drop i l ≡ []
       none = ap (λ n. drop n l) (let e : i ≡ length l = omega (arith, inv .within) in e) ∙ drop-length l
 
--- the definition's words for a whole block
+-- the whole block, as the definition has it
 pub resumed-all : (cs : List ℤ) (shift : ℕ) (l : List ℤ) → resumed cs shift l (length cs) ≡ predict cs shift (take (length cs) l) (drop (length cs) l)
 unfolding resumed predict
 resumed-all cs shift l = refl
@@ -73,7 +73,7 @@ restored-append cs shift before [] ys = refl
 restored-append cs shift before (x ∷ xs) ys =
     ap (λ (r : List ℤ). predicted cs shift before x ∷ r) (restored-append cs shift (predicted cs shift before x ∷ before) xs ys)
 
--- where the first m samples v are restored, the block goes on from there
+-- v is the first m samples restored: the rest is restored from there
 module _ (cs : List ℤ) (shift : ℕ) (l v : List ℤ) (n m : ℕ) (h : n ≤ m) (g : m ≤ length l) (long : length v ≡ length (take m l)) where
   pub resumed-prefix : v ≡ resumed cs shift (take m l) n → resumed cs shift (v ++ drop m l) m ≡ resumed cs shift l n
   unfolding resumed

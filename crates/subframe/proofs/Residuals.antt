@@ -1,4 +1,4 @@
--- The head of a residual: its method, its order, and the sizes of its partitions. Assumes nothing.
+-- The start of a residual: its method, its partition order, and the sizes of its partitions. Assumes nothing.
 use Prim.Native.Nat.{ℕ, suc, _+_, _-_, _*_, _/_, _%_, _^_, _≤_, _<_}
 use native.Mathlib.Nat.{one-mul, suc-mul, mul-comm, div-add-mod', mod-eq-of-lt, lt-of-le-of-lt}
 use native.Mathlib.Omega.{arith}
@@ -20,7 +20,7 @@ use Rattle.input.specs.Answers.{means, low64}
 use Rattle.input.proofs.Laws.{read-got, read-short}
 use Rattle.rfc9639.specs.Residual.{partition, partitionSizes, residual}
 
--- the partitions of an order, as the code counts them
+-- the number of partitions of an order, as the code computes it
 abbrev pub partsOf : ℕ → ℕ
 partsOf order = (1 * 2 ^ order) % 2 ^ 64
 
@@ -33,7 +33,7 @@ module _ {order : ℕ} (h : order < 16) where
   pub parts-some : 0 < partsOf order
   parts-some = rw parts-is (pow-pos order)
 
-  -- together with the warm-up they are the block
+  -- together with the warm-up samples they fill the block
   pub sizes-sum : (warm n : ℕ) → n % partsOf order ≡ 0 → warm ≤ n / partsOf order
       → n - warm ≡ n / partsOf order - warm + (partsOf order - 1) * (n / partsOf order)
   sizes-sum warm n e l = omega (arith, whole, less)
@@ -47,9 +47,9 @@ module _ {order : ℕ} (h : order < 16) where
           ∙ ap (λ c. c * (n / partsOf order)) (let d : partsOf order ≡ suc (partsOf order - 1) = omega (arith, parts-some) in d)
           ∙ suc-mul (partsOf order - 1) (n / partsOf order)
 
--- a residual behind its order
-judged : ℕ → ℕ → ℕ → ℕ → Ask (List ℤ)
-judged warm n method order = do
+-- a residual after its order
+afterOrder : ℕ → ℕ → ℕ → ℕ → Ask (List ℤ)
+afterOrder warm n method order = do
   require (eqb (n % 2 ^ order) 0) 9
   require (leb warm (n / 2 ^ order)) 9
   each (partition method) (partitionSizes order (n / 2 ^ order) warm)
@@ -60,61 +60,61 @@ module _ (warm n : ℕ) (s : List ℕ) (at : Place) {r : Bits} (first : means r 
   no-method e = sym (bind-short (bits 2) s at _ (read-short 2 s at (omega arith) first e))
 
   module _ {method : ℕ} {p : Place} (e : r ≡ Value method p) where
-    got : runAt (bits 2) s at ≡ gotAt method p
-    got = read-got 2 s at (omega arith) first e
+    got-method : runAt (bits 2) s at ≡ gotAt method p
+    got-method = read-got 2 s at (omega arith) first e
 
-    behind-got : In s p
-    behind-got = stays-in (bits 2) s at got
+    in-after-method : In s p
+    in-after-method = stays-in (bits 2) s at got-method
 
-    pub reserved : 2 ≤ method → refusedAt 4 ≡ runAt (residual warm n) s at
+    pub method-reserved : 2 ≤ method → refusedAt 4 ≡ runAt (residual warm n) s at
     unfolding residual
-    reserved h = sym (bind-got (bits 2) s at _ got ∙ require-fails 4 _ behind-got (le-ltb method 2 h))
+    method-reserved h = sym (bind-got (bits 2) s at _ got-method ∙ require-fails 4 _ in-after-method (le-ltb method 2 h))
 
     module _ (h : method < 2) {q : Bits} (second : means q ≡ low64 (runAt (bits 4) s p)) where
       pub no-order : q ≡ Short → shortAt ≡ runAt (residual warm n) s at
       unfolding residual
       no-order f =
           sym
-          (bind-got (bits 2) s at _ got ∙ require-holds 4 _ behind-got (lt-ltb method 2 h) ∙ bind-short (bits 4) s p _ (read-short 4 s p (omega arith) second f))
+          (bind-got (bits 2) s at _ got-method ∙ require-holds 4 _ in-after-method (lt-ltb method 2 h) ∙ bind-short (bits 4) s p _ (read-short 4 s p (omega arith) second f))
 
       module _ {order : ℕ} {next : Place} (f : q ≡ Value order next) where
-        told : runAt (bits 4) s p ≡ gotAt order next
-        told = read-got 4 s p (omega arith) second f
+        got-order : runAt (bits 4) s p ≡ gotAt order next
+        got-order = read-got 4 s p (omega arith) second f
 
-        there : In s next
-        there = stays-in (bits 4) s p told
+        in-after-order : In s next
+        in-after-order = stays-in (bits 4) s p got-order
 
         pub order-below : order < 16
-        order-below = bits-below 4 s p told
+        order-below = bits-below 4 s p got-order
 
-        c-is : partsOf order ≡ 2 ^ order
-        c-is = parts-is order-below
+        count-is-power : partsOf order ≡ 2 ^ order
+        count-is-power = parts-is order-below
 
-        -- the run from here
-        onward : runAt (residual warm n) s at ≡ runAt (judged warm n method order) s next
-        unfolding residual judged
-        onward = bind-got (bits 2) s at _ got ∙ require-holds 4 _ behind-got (lt-ltb method 2 h) ∙ bind-got (bits 4) s p _ told
+        -- the rest, from this place
+        onward : runAt (residual warm n) s at ≡ runAt (afterOrder warm n method order) s next
+        unfolding residual afterOrder
+        onward = bind-got (bits 2) s at _ got-method ∙ require-holds 4 _ in-after-method (lt-ltb method 2 h) ∙ bind-got (bits 4) s p _ got-order
 
-        pub uneven : (n % partsOf order ≡ 0 → ⊥) → refusedAt 9 ≡ runAt (residual warm n) s at
-        unfolding judged
-        uneven g = sym (onward ∙ require-fails 9 _ there (ne-eqb (n % 2 ^ order) 0 (λ d. g (ap (λ c. n % c) c-is ∙ d))))
+        pub size-uneven : (n % partsOf order ≡ 0 → ⊥) → refusedAt 9 ≡ runAt (residual warm n) s at
+        unfolding afterOrder
+        size-uneven g = sym (onward ∙ require-fails 9 _ in-after-order (ne-eqb (n % 2 ^ order) 0 (λ d. g (ap (λ c. n % c) count-is-power ∙ d))))
 
         module _ (g : n % partsOf order ≡ 0) where
           even : eqb (n % 2 ^ order) 0 ≡ true
-          even = eq-eqb (n % 2 ^ order) 0 (ap (λ c. n % c) (sym c-is) ∙ g)
+          even = eq-eqb (n % 2 ^ order) 0 (ap (λ c. n % c) (sym count-is-power) ∙ g)
 
           size-is : n / partsOf order ≡ n / 2 ^ order
-          size-is = ap (λ c. n / c) c-is
+          size-is = ap (λ c. n / c) count-is-power
 
-          pub too-short : n / partsOf order < warm → refusedAt 9 ≡ runAt (residual warm n) s at
-          unfolding judged
-          too-short l =
-              sym (onward ∙ require-holds 9 _ there even ∙ require-fails 9 _ there (lt-leb warm (n / 2 ^ order) (subst (λ m. m < warm) size-is l)))
+          pub size-below-warm : n / partsOf order < warm → refusedAt 9 ≡ runAt (residual warm n) s at
+          unfolding afterOrder
+          size-below-warm l =
+              sym (onward ∙ require-holds 9 _ in-after-order even ∙ require-fails 9 _ in-after-order (lt-leb warm (n / 2 ^ order) (subst (λ m. m < warm) size-is l)))
 
-          pub shaped : warm ≤ n / partsOf order → {x : At (List ℤ)}
+          pub partitions-read : warm ≤ n / partsOf order → {x : At (List ℤ)}
               → x ≡ runAt (each (partition method) ((n / partsOf order - warm) ∷ replicate (partsOf order - 1) (n / partsOf order))) s next
               → x ≡ runAt (residual warm n) s at
-          unfolding judged partitionSizes
-          shaped l d =
-              d ∙ ap (λ c. runAt (each (partition method) ((n / c - warm) ∷ replicate (c - 1) (n / c))) s next) c-is
-              ∙ sym (onward ∙ require-holds 9 _ there even ∙ require-holds 9 _ there (le-leb warm (n / 2 ^ order) (subst (λ m. warm ≤ m) size-is l)))
+          unfolding afterOrder partitionSizes
+          partitions-read l d =
+              d ∙ ap (λ c. runAt (each (partition method) ((n / c - warm) ∷ replicate (c - 1) (n / c))) s next) count-is-power
+              ∙ sym (onward ∙ require-holds 9 _ in-after-order even ∙ require-holds 9 _ in-after-order (le-leb warm (n / 2 ^ order) (subst (λ m. warm ≤ m) size-is l)))

@@ -1,4 +1,4 @@
--- A sample and a residual, by what their questions got. Assumes nothing.
+-- A sample and a Rice-coded residual, by what was read of each. Assumes nothing.
 use Prim.Native.Nat.{ℕ, _+_, _*_, _/_, _%_, _^_, _≤_, _<_}
 use native.Mathlib.Nat.{lt-of-lt-of-le, mul-add-mod-self-right, add-assoc, mul-assoc, mul-comm, add-mul, div-add-mod'}
 use native.Mathlib.Omega.{arith}
@@ -13,7 +13,7 @@ use mir.Facts.{toZ-ofZ}
 use Rattle.reading.specs.declared.Place.{Place}
 use Rattle.reading.specs.Reading.{Ask, done, _>>=_, bits, zeros}
 use Rattle.reading.specs.Places.{gotAt, shortAt, runAt}
-use Rattle.reading.proofs.Running.{stays-in, runAt-done, bind-got, bind-short, bits-below}
+use Rattle.reading.proofs.Running.{bind-got, bind-short, bits-below}
 use Rattle.input.specs.declared.Bits.{Bits}
 use Rattle.input.specs.declared.Bits.the-variants.{Value, Short}
 use Rattle.input.specs.Answers.{means, low64, count, counted}
@@ -23,28 +23,29 @@ use Rattle.signed.proofs.Extending.{extend-signed}
 use Rattle.rfc9639.specs.Integers.{signed, wrapped, sample}
 use Rattle.rfc9639.specs.Residual.{folded, unfolded, rice}
 use Rattle.rfc9639.proofs.Widths.{signed-fits, fits-mono, wrapped-same}
+use Rattle.subframe.proofs.Lending.{bind-done}
 
 -- ---- a sample
 
 -- the sign extension of w bits fits 32
-pub narrowed : (w v : ℕ) → w ≤ 32 → v < 2 ^ w → wrapped 32 (signExtend w v) ≡ signed w v
-narrowed w v h l =
+pub extended-low32 : (w v : ℕ) → w ≤ 32 → v < 2 ^ w → wrapped 32 (signExtend w v) ≡ signed w v
+extended-low32 w v h l =
     ap (wrapped 32) (extend-signed w v (omega arith) l) ∙ wrapped-same 32 (signed w v) (omega arith) (fits-mono h (signed-fits w v l))
 
-module _ (w : ℕ) (s : List ℕ) (at : Place) (h : w ≤ 32) {r : Bits} (told : means r ≡ low64 (runAt (bits w) s at)) where
+module _ (w : ℕ) (s : List ℕ) (at : Place) (h : w ≤ 32) {r : Bits} (says : means r ≡ low64 (runAt (bits w) s at)) where
   pub no-sample : r ≡ Short → shortAt ≡ runAt (sample w) s at
   unfolding sample
-  no-sample e = sym (bind-short (bits w) s at (λ v. done (signed w v)) (read-short w s at (omega arith) told e))
+  no-sample e = sym (bind-short (bits w) s at (λ v. done (signed w v)) (read-short w s at (omega arith) says e))
 
-  -- a signed value is handed on by its bits
+  -- the code passes a signed value by its bits
   pub sample-got : {v : ℕ} {q : Place} {x z : ℤ} → r ≡ Value v q → x ≡ signExtend w v → SFits w64 x → z ≡ wrapped 32 (toZ w64 (ofZ w64 x)) → SFits w32 z
       → gotAt (toZ w32 (ofZ w32 z)) q ≡ runAt (sample w) s at
   unfolding sample
   sample-got {v} {q} {x} {z} e f fx g fz =
-      let got = read-got w s at (omega arith) told e in
+      let got = read-got w s at (omega arith) says e in
       sym
-      (bind-got (bits w) s at (λ v. done (signed w v)) got ∙ runAt-done (signed w v) (stays-in (bits w) s at got)
-      ∙ ap (λ y. gotAt y q) (sym (toZ-ofZ fz ∙ g ∙ ap (wrapped 32) (toZ-ofZ fx ∙ f) ∙ narrowed w v h (bits-below w s at got))))
+      (bind-done (bits w) (signed w) s at got
+      ∙ ap (λ y. gotAt y q) (sym (toZ-ofZ fz ∙ g ∙ ap (wrapped 32) (toZ-ofZ fx ∙ f) ∙ extended-low32 w v h (bits-below w s at got))))
 
 -- ---- a residual
 
@@ -52,8 +53,8 @@ pub joined-fits : (q r k : ℕ) → q < 2 ^ 33 → k ≤ 31 → r < 2 ^ k → q 
 joined-fits q r k a h b = lt-of-lt-of-le (digits-lt a b) (rw (← pow-add 2 33 k) (pow-mono {i = 33 + k} {j = 64} (omega arith)))
 
 -- the quotient's low bits are enough
-low-joined : (q p r m : ℕ) → (q % m * p + r) % m ≡ (q * p + r) % m
-low-joined q p r m =
+low-folded : (q p r m : ℕ) → (q % m * p + r) % m ≡ (q * p + r) % m
+low-folded q p r m =
     sym (mul-add-mod-self-right (q / m * p) m (q % m * p + r)) ∙ ap (λ x. x % m) (sym (add-assoc (q / m * p * m) (q % m * p) r) ∙ ap (λ x. x + r) whole)
   where
     whole : q / m * p * m + q % m * p ≡ q * p
@@ -64,36 +65,35 @@ low-joined q p r m =
 folded-count : (k z r : ℕ) → folded k (count z) r ≡ folded k z r
 unfolding folded
 folded-count k z r =
-    sym (low-joined (count z) (2 ^ k) r (2 ^ 32)) ∙ ap (λ x. (x * 2 ^ k + r) % 2 ^ 32) (count-low z) ∙ low-joined z (2 ^ k) r (2 ^ 32)
+    sym (low-folded (count z) (2 ^ k) r (2 ^ 32)) ∙ ap (λ x. (x * 2 ^ k + r) % 2 ^ 32) (count-low z) ∙ low-folded z (2 ^ k) r (2 ^ 32)
 
-low : ℕ → ℕ → Ask ℤ
-low k q = bits k >>= (λ r. done (unfolded (folded k q r)))
+remainderThen : ℕ → ℕ → Ask ℤ
+remainderThen k q = bits k >>= (λ r. done (unfolded (folded k q r)))
 
 module _ (k : ℕ) (s : List ℕ) (at : Place) (h : k ≤ 31) {u : Bits} (high : means u ≡ counted (runAt zeros s at)) where
   pub no-quotient : u ≡ Short → shortAt ≡ runAt (rice k) s at
-  unfolding rice low
-  no-quotient e = sym (bind-short zeros s at (low k) (unary-short s at high e))
+  unfolding rice remainderThen
+  no-quotient e = sym (bind-short zeros s at (remainderThen k) (unary-short s at high e))
 
-  module _ {q : ℕ} {p : Place} (e : u ≡ Value q p) {r : Bits} (told : means r ≡ low64 (runAt (bits k) s p)) where
+  module _ {q : ℕ} {p : Place} (e : u ≡ Value q p) {r : Bits} (says : means r ≡ low64 (runAt (bits k) s p)) where
     pub no-remainder : r ≡ Short → shortAt ≡ runAt (rice k) s at
-    unfolding rice low
+    unfolding rice remainderThen
     no-remainder f =
         let got = unary-got s at high e in
-        sym (bind-got zeros s at (low k) (got .1) ∙ bind-short (bits k) s p (λ r. done (unfolded (folded k (got .0) r))) (read-short k s p (omega arith) told f))
+        sym (bind-got zeros s at (remainderThen k) (got .1) ∙ bind-short (bits k) s p (λ r. done (unfolded (folded k (got .0) r))) (read-short k s p (omega arith) says f))
 
     module _ {v : ℕ} {next : Place} (f : r ≡ Value v next) where
       pub quotient-below : q < 2 ^ 33
       quotient-below = let got = unary-got s at high e in omega (arith, got .2, count-below (got .0))
 
       pub remainder-below : v < 2 ^ k
-      remainder-below = bits-below k s p (read-got k s p (omega arith) told f)
+      remainder-below = bits-below k s p (read-got k s p (omega arith) says f)
 
       pub rice-got : {n : ℕ} {z : ℤ} → n ≡ folded k q v → z ≡ unfolded n → SFits w32 z → gotAt (toZ w32 (ofZ w32 z)) next ≡ runAt (rice k) s at
-      unfolding rice low
+      unfolding rice remainderThen
       rice-got {n} {z} en ez fz =
           let got = unary-got s at high e in
-          let rest = read-got k s p (omega arith) told f in
+          let rest = read-got k s p (omega arith) says f in
           sym
-          (bind-got zeros s at (low k) (got .1) ∙ bind-got (bits k) s p (λ r. done (unfolded (folded k (got .0) r))) rest
-          ∙ runAt-done (unfolded (folded k (got .0) v)) (stays-in (bits k) s p rest)
+          (bind-got zeros s at (remainderThen k) (got .1) ∙ bind-done (bits k) (λ r. unfolded (folded k (got .0) r)) s p rest
           ∙ ap (λ y. gotAt y next) (sym (toZ-ofZ fz ∙ ez ∙ ap unfolded (en ∙ ap (λ x. folded k x v) (got .2) ∙ folded-count k (got .0) v))))

@@ -1,4 +1,4 @@
--- A decoder's answer with the samples that it left, in the words of the definition.
+-- What a decoder's answer, with the samples that it left, means in the definition.
 use Prim.Native.Nat.{ℕ}
 use mathlib.Core.Path.{_≡_}
 use mathlib.Core.List.{List}
@@ -17,11 +17,11 @@ abbrev pub means : Decoded → List ℤ → At (List ℤ)
 means (Done p) left = gotAt left p
 means (Refused e) left = refusedBy e
 
--- a channel of n samples of a width that 32 bits hold; another width is a bad argument, 11
+-- a channel of n samples of at most 32 bits; a greater width is a bad argument, refusal 11
 unfoldable pub decodeAt : ℕ → ℕ → List ℕ → Place → At (List ℤ)
 decodeAt width n s at = if leb width 32 then runAt (subframe n width) s at else refusedAt 11
 
--- where it stops, zeros
+-- a refusal leaves zeros
 abbrev pub cleared : Decoded → ℕ → List ℤ → Type 0
 cleared (Done p) n left = Unit {0}
 cleared (Refused e) n left = left ≡ replicate n (pos 0)

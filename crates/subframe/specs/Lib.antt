@@ -1,3 +1,3 @@
--- What the decoders of a channel answer, in the words of the definition.
+-- What the decoders of a channel answer, in the terms of the definition.
 pub mod Answers
 pub mod Private

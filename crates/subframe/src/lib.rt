@@ -1,18 +1,18 @@
-// One channel of a block (RFC 9639 section 9.2): claxon's subframe.rs. `decode` answers on every argument, and leaves the
-// samples of the definition in the lent part, or zeros where it stops.
+// One channel of a block (RFC 9639 section 9.2), after claxon's subframe.rs. `decode` answers on every argument. It
+// leaves the samples of the definition in the caller's slice, or zeros where it refuses.
 mod answers;
 mod header;
 mod predict;
 mod residual;
 
-use answers::HeaderRead;
-use answers::Quantizer;
-use answers::Sample;
+use answers::QuantizerRead;
+use answers::SampleRead;
+use answers::SubframeHeaderRead;
 use error::Refusal;
 use header::order_of;
 use header::read_quantizer;
 use header::read_subframe_header;
-use predict::predict_fixed;
+use predict::fixed_coefficients;
 use predict::predict_lpc;
 use reading::Place;
 use residual::decode_residual;
@@ -23,15 +23,15 @@ use rfc9639::SubframeType;
 ghost use mathlib.Core.Path.{_≡_};
 ghost use Prim.Native.Nat.{_≤_, _<_};
 ghost use lib.IntN.{pos};
-ghost use lib.ListN.{length, take};
+ghost use lib.ListN.{length};
 ghost use mathlib.Core.List.{map};
 ghost use Rattle.reading.specs.Places.{runAt};
-ghost use Rattle.rfc9639.specs.Subframe.{fixed, lpc, samples, orderOf, lpcBehind, subframeBehind};
+ghost use Rattle.rfc9639.specs.Subframe.{fixed, lpc, samples, orderOf, subframeBehind};
 ghost use Rattle.rfc9639.specs.Integers.{shiftUp};
 ghost use Rattle.subframe.specs.Answers.{means, Left, decodeAt};
-ghost use Rattle.subframe.specs.Private.{Orderly};
+ghost use Rattle.subframe.specs.Private.{Orderly, Predictable, predictedBlock, lpcBlock};
 
-// The place behind what was decoded, or why it stopped.
+// The place after what was decoded, or why it stopped.
 pub enum Decoded {
     Done(Place),
     Refused(Refusal),
@@ -42,14 +42,36 @@ fn decode_constant(s: &[u8], at: Place, width: u32, out: &mut [i32]) -> Decoded
     ensures { λ r. ⌜ means r (now (out .exit)) ≡ runAt (samples SubframeType.Constant width (length (now (out .entry)))) (now (s .entry)) at ⌝ }
 {
     let read = read_sample(s, at, width);
-    let Sample::Value(x, p) = read else {
+    let SampleRead::Value(x, p) = read else {
         return Decoded::Refused(Refusal::CutShort);
     };
     block::fill(out, x);
     Decoded::Done(p)
 }
 
-// RFC 9639 section 9.2.5: the warm-up samples, then the residual, each into its part; then the samples in place.
+// What follows the warm-up samples and the coefficients (RFC 9639 sections 9.2.5 and 9.2.6): the residual into the rest
+// of the block, then prediction in place.
+fn decode_predicted(
+    s: &[u8],
+    at: Place,
+    coefficients: &[i32],
+    shift: u32,
+    out: &mut [i32],
+) -> Decoded
+    requires { ⌜ Predictable 32 (now coefficients) (now out) ⌝ }
+    ensures { λ r. ⌜ means r (now (out .exit)) ≡ runAt (predictedBlock (now (coefficients .entry)) shift (now (out .entry))) (now (s .entry)) at ⌝ }
+{
+    let order = coefficients.len();
+    let n = out.len();
+    let residual = decode_residual(s, at, order, n, &mut out[order..]);
+    let Decoded::Done(p) = residual else {
+        return residual;
+    };
+    predict_lpc(coefficients, shift, out);
+    Decoded::Done(p)
+}
+
+// RFC 9639 section 9.2.5: a fixed predictor is a linear one with known coefficients and no shift.
 fn decode_fixed(s: &[u8], at: Place, width: u32, order: usize, out: &mut [i32]) -> Decoded
     requires { ⌜ (width ≤ 32) × (order ≤ 4) × (order ≤ length (now out)) ⌝ }
     ensures { λ r. ⌜ means r (now (out .exit)) ≡ runAt (fixed order width (length (now (out .entry)))) (now (s .entry)) at ⌝ }
@@ -58,17 +80,12 @@ fn decode_fixed(s: &[u8], at: Place, width: u32, order: usize, out: &mut [i32]) 
     let Decoded::Done(p) = warm else {
         return warm;
     };
-    let n = out.len();
-    let residual = decode_residual(s, p, order, n, &mut out[order..]);
-    let Decoded::Done(q) = residual else {
-        return residual;
-    };
-    predict_fixed(order, out);
-    Decoded::Done(q)
+    let coefficients = fixed_coefficients(order);
+    decode_predicted(s, p, &coefficients[..order], 0, out)
 }
 
-// RFC 9639 section 9.2.6 behind the shift: the coefficients, the residual, and the samples in place.
-fn decode_lpc_residual(
+// RFC 9639 section 9.2.6, after the shift: the coefficients, and the samples that they predict.
+fn decode_lpc_after_shift(
     s: &[u8],
     at: Place,
     precision: u32,
@@ -77,23 +94,17 @@ fn decode_lpc_residual(
     out: &mut [i32],
 ) -> Decoded
     requires { ⌜ (precision ≤ 15) × (shift < 16) × (order ≤ 32) × (order ≤ length (now out)) ⌝ }
-    ensures { λ r. ⌜ means r (now (out .exit)) ≡ runAt (lpcBehind order precision shift (take order (now (out .entry))) (length (now (out .entry)))) (now (s .entry)) at ⌝ }
+    ensures { λ r. ⌜ means r (now (out .exit)) ≡ runAt (lpcBlock order precision shift (now (out .entry))) (now (s .entry)) at ⌝ }
 {
     let mut coefficients = [0i32; 32];
     let read = decode_verbatim(s, at, precision, &mut coefficients[..order]);
     let Decoded::Done(p) = read else {
         return read;
     };
-    let n = out.len();
-    let residual = decode_residual(s, p, order, n, &mut out[order..]);
-    let Decoded::Done(q) = residual else {
-        return residual;
-    };
-    predict_lpc(&coefficients[..order], shift, out);
-    Decoded::Done(q)
+    decode_predicted(s, p, &coefficients[..order], shift, out)
 }
 
-// RFC 9639 section 9.2.6: the warm-up samples, the precision and the shift, and what is behind them.
+// RFC 9639 section 9.2.6: the warm-up samples, the precision and the shift, and the rest.
 fn decode_lpc(s: &[u8], at: Place, width: u32, order: usize, out: &mut [i32]) -> Decoded
     requires { ⌜ (width ≤ 32) × (order ≤ 32) × (order ≤ length (now out)) ⌝ }
     ensures { λ r. ⌜ means r (now (out .exit)) ≡ runAt (lpc order width (length (now (out .entry)))) (now (s .entry)) at ⌝ }
@@ -104,7 +115,7 @@ fn decode_lpc(s: &[u8], at: Place, width: u32, order: usize, out: &mut [i32]) ->
     };
     let quantizer = read_quantizer(s, p);
     match quantizer {
-        Quantizer::Known(precision, shift, q) => decode_lpc_residual(
+        QuantizerRead::Known(precision, shift, q) => decode_lpc_after_shift(
             s,
             q,
             precision,
@@ -112,11 +123,11 @@ fn decode_lpc(s: &[u8], at: Place, width: u32, order: usize, out: &mut [i32]) ->
             order,
             out,
         ),
-        Quantizer::Refused(e) => Decoded::Refused(e),
+        QuantizerRead::Refused(e) => Decoded::Refused(e),
     }
 }
 
-// The samples of a channel by its kind, in the bits that are not wasted.
+// The samples of a subframe by its type, `width` bits each: the wasted bits are not stored.
 fn decode_kind(s: &[u8], at: Place, kind: SubframeType, width: u32, out: &mut [i32]) -> Decoded
     requires { ⌜ (width ≤ 32) × Orderly kind × (orderOf kind ≤ length (now out)) ⌝ }
     ensures { λ r. ⌜ means r (now (out .exit)) ≡ runAt (samples kind width (length (now (out .entry)))) (now (s .entry)) at ⌝ }
@@ -129,7 +140,7 @@ fn decode_kind(s: &[u8], at: Place, kind: SubframeType, width: u32, out: &mut [i
     }
 }
 
-// The wasted bits back, as zeros (RFC 9639 section 9.2.2).
+// Puts the wasted bits back, as zeros (RFC 9639 section 9.2.2).
 fn shift_all(out: &mut [i32], wasted: u32)
     ensures { λ r. ⌜ now (out .exit) ≡ map (shiftUp wasted) (now (out .entry)) ⌝ }
 {
@@ -140,8 +151,14 @@ fn shift_all(out: &mut [i32], wasted: u32)
     }
 }
 
-// What is behind a subframe's header.
-fn decode_headed(s: &[u8], at: Place, h: SubframeHeader, width: u32, out: &mut [i32]) -> Decoded
+// What follows a subframe's header.
+fn decode_after_header(
+    s: &[u8],
+    at: Place,
+    h: SubframeHeader,
+    width: u32,
+    out: &mut [i32],
+) -> Decoded
     requires { ⌜ (width ≤ 32) × Orderly (h .kind) × (h .wasted ≤ width) ⌝ }
     ensures { λ r. ⌜ means r (now (out .exit)) ≡ runAt (subframeBehind (length (now (out .entry))) width h) (now (s .entry)) at ⌝ }
 {
@@ -161,7 +178,7 @@ fn decode_headed(s: &[u8], at: Place, h: SubframeHeader, width: u32, out: &mut [
     Decoded::Done(p)
 }
 
-// A header and what is behind it. A width over 32 is no channel's, and is refused as an argument.
+// A header and what follows it. No channel has samples of more than 32 bits, so such a width is a bad argument.
 fn decode_subframe(s: &[u8], at: Place, width: u32, out: &mut [i32]) -> Decoded
     ensures { λ r. ⌜ means r (now (out .exit)) ≡ decodeAt width (length (now (out .entry))) (now (s .entry)) at ⌝ }
 {
@@ -170,12 +187,12 @@ fn decode_subframe(s: &[u8], at: Place, width: u32, out: &mut [i32]) -> Decoded
     }
     let read = read_subframe_header(s, at, width);
     match read {
-        HeaderRead::Header(h, p) => decode_headed(s, p, h, width, out),
-        HeaderRead::Refused(e) => Decoded::Refused(e),
+        SubframeHeaderRead::Header(h, p) => decode_after_header(s, p, h, width, out),
+        SubframeHeaderRead::Refused(e) => Decoded::Refused(e),
     }
 }
 
-// One channel of as many samples as `out` has, of `width` bits each. Where it stops, `out` is zeros.
+// One channel, of as many samples as `out` has, `width` bits each. On a refusal `out` is filled with zeros.
 pub fn decode(s: &[u8], at: Place, width: u32, out: &mut [i32]) -> Decoded
     ensures { λ r. ⌜ Left (decodeAt width (length (now (out .entry))) (now (s .entry)) at) (length (now (out .entry))) r (now (out .exit)) ⌝ }
 {

@@ -1,14 +1,14 @@
-// Prediction in place (RFC 9639 sections 9.2.5 and 9.2.6): a channel's part holds the warm-up samples and the residual
-// before, and the samples after. The sums are exact: 32 products of 15 and of 32 bits stay below 2 ^ 51.
+// Prediction in place (RFC 9639 sections 9.2.5 and 9.2.6): a slice that holds the warm-up samples and the residual
+// holds the samples in the end. The sums are exact: 32 products of a 15-bit and a 32-bit number stay below 2 ^ 51.
 ghost use mathlib.Core.Path.{_≡_};
 ghost use mathlib.Core.List.{reverse};
 ghost use Prim.Native.Nat.{_+_, _*_, _^_, _≤_, _<_};
 ghost use lib.IntN.{pos, natAbs, _+ℤ_, _*ℤ_};
-ghost use lib.ListN.{length, take, drop};
-ghost use Rattle.rfc9639.specs.Prediction.{dot as dotOf, predict, fixedCoefficients};
+ghost use lib.ListN.{length, take};
+ghost use Rattle.rfc9639.specs.Prediction.{dot as dotOf, fixedCoefficients};
 ghost use Rattle.rfc9639.specs.Integers.{wrapped, shiftDown};
 ghost use Rattle.number.specs.Private.{Small};
-ghost use Rattle.subframe.specs.Private.{padded};
+ghost use Rattle.subframe.specs.Private.{withZeros, Predictable, predictedInPlace};
 
 fn mul_add(sum: i64, c: i32, x: i32) -> i64
     requires { ⌜ (natAbs sum < 2 ^ 62) × (natAbs c < 2 ^ 15) ⌝ }
@@ -17,9 +17,9 @@ fn mul_add(sum: i64, c: i32, x: i32) -> i64
     sum + (c as i64) * (x as i64)
 }
 
-// The products of the coefficients and the latest samples, summed up.
+// The sum of the products of the coefficients and the latest samples, the latest first.
 fn dot(coefficients: &[i32], before: &[i32]) -> i64
-    requires { ⌜ (length (now coefficients) ≤ 32) × (length (now coefficients) ≤ length (now before)) × Small (2 ^ 15) (now coefficients) ⌝ }
+    requires { ⌜ Predictable 32 (now coefficients) (now before) ⌝ }
     ensures { λ r. ⌜ (r ≡ dotOf (pos 0) (now (coefficients .entry)) (reverse (now (before .entry)))) × (natAbs r < 2 ^ 62) ⌝ }
 {
     let mut sum: i64 = 0;
@@ -31,7 +31,7 @@ fn dot(coefficients: &[i32], before: &[i32]) -> i64
     sum
 }
 
-// A sample from the sum and its residual.
+// A sample, from its sum of products and its residual.
 fn restore(sum: i64, shift: u32, residual: i32) -> i32
     requires { ⌜ natAbs sum < 2 ^ 62 ⌝ }
     ensures { λ r. ⌜ r ≡ wrapped 32 (shiftDown shift sum +ℤ residual) ⌝ }
@@ -41,8 +41,8 @@ fn restore(sum: i64, shift: u32, residual: i32) -> i32
 
 // For any order.
 fn predict_lpc_high_order(coefficients: &[i32], shift: u32, out: &mut [i32])
-    requires { ⌜ (length (now coefficients) ≤ 32) × (length (now coefficients) ≤ length (now out)) × Small (2 ^ 15) (now coefficients) ⌝ }
-    ensures { λ r. ⌜ now (out .exit) ≡ predict (now (coefficients .entry)) shift (take (length (now (coefficients .entry))) (now (out .entry))) (drop (length (now (coefficients .entry))) (now (out .entry))) ⌝ }
+    requires { ⌜ Predictable 32 (now coefficients) (now out) ⌝ }
+    ensures { λ r. ⌜ now (out .exit) ≡ predictedInPlace (now (coefficients .entry)) shift (now (out .entry)) ⌝ }
 {
     let mut i = coefficients.len();
     while i < out.len() {
@@ -52,10 +52,10 @@ fn predict_lpc_high_order(coefficients: &[i32], shift: u32, out: &mut [i32])
     }
 }
 
-// At most twelve coefficients with zeros behind them: a sum of twelve products is one piece of straight code.
+// At most twelve coefficients, padded with zeros to twelve: a sum of twelve products is straight code.
 fn taps_of(coefficients: &[i32]) -> [i32; 12]
     requires { ⌜ length (now coefficients) ≤ 12 ⌝ }
-    ensures { λ r. ⌜ r ≡ padded 12 (now (coefficients .entry)) ⌝ }
+    ensures { λ r. ⌜ r ≡ withZeros 12 (now (coefficients .entry)) ⌝ }
 {
     let mut taps = [0i32; 12];
     let mut j = 0;
@@ -66,7 +66,7 @@ fn taps_of(coefficients: &[i32]) -> [i32; 12]
     taps
 }
 
-// The products of twelve taps and the latest twelve samples, summed up.
+// The sum of the products of twelve taps and the latest twelve samples.
 fn dot12(taps: &[i32; 12], before: &[i32]) -> i64
     requires { ⌜ (length (now taps) ≡ 12) × (12 ≤ length (now before)) × Small (2 ^ 15) (now taps) ⌝ }
     ensures { λ r. ⌜ (r ≡ dotOf (pos 0) (now (taps .entry)) (reverse (now (before .entry)))) × (natAbs r < 2 ^ 62) ⌝ }
@@ -81,10 +81,10 @@ fn dot12(taps: &[i32; 12], before: &[i32]) -> i64
     sum
 }
 
-// For an order of at most 12, which nearly all streams have: behind the first twelve samples, each is predicted from twelve.
+// For an order of at most 12, as in nearly all streams: after the first twelve samples, each is predicted from twelve.
 fn predict_lpc_low_order(coefficients: &[i32], shift: u32, out: &mut [i32])
-    requires { ⌜ (length (now coefficients) ≤ 12) × (length (now coefficients) ≤ length (now out)) × Small (2 ^ 15) (now coefficients) ⌝ }
-    ensures { λ r. ⌜ now (out .exit) ≡ predict (now (coefficients .entry)) shift (take (length (now (coefficients .entry))) (now (out .entry))) (drop (length (now (coefficients .entry))) (now (out .entry))) ⌝ }
+    requires { ⌜ Predictable 12 (now coefficients) (now out) ⌝ }
+    ensures { λ r. ⌜ now (out .exit) ≡ predictedInPlace (now (coefficients .entry)) shift (now (out .entry)) ⌝ }
 {
     if out.len() <= 12 {
         predict_lpc_high_order(coefficients, shift, out);
@@ -100,10 +100,10 @@ fn predict_lpc_low_order(coefficients: &[i32], shift: u32, out: &mut [i32])
     }
 }
 
-// claxon's two predictors, by the order. They meet one definition.
+// claxon has two predictors, chosen by the order. Both meet one definition.
 pub fn predict_lpc(coefficients: &[i32], shift: u32, out: &mut [i32])
-    requires { ⌜ (length (now coefficients) ≤ 32) × (length (now coefficients) ≤ length (now out)) × Small (2 ^ 15) (now coefficients) ⌝ }
-    ensures { λ r. ⌜ now (out .exit) ≡ predict (now (coefficients .entry)) shift (take (length (now (coefficients .entry))) (now (out .entry))) (drop (length (now (coefficients .entry))) (now (out .entry))) ⌝ }
+    requires { ⌜ Predictable 32 (now coefficients) (now out) ⌝ }
+    ensures { λ r. ⌜ now (out .exit) ≡ predictedInPlace (now (coefficients .entry)) shift (now (out .entry)) ⌝ }
 {
     if coefficients.len() <= 12 {
         predict_lpc_low_order(coefficients, shift, out);
@@ -112,8 +112,8 @@ pub fn predict_lpc(coefficients: &[i32], shift: u32, out: &mut [i32])
     }
 }
 
-// The coefficients of RFC 9639 section 9.2.5, with zeros behind each row.
-fn fixed_coefficients(order: usize) -> [i32; 4]
+// The coefficients of RFC 9639 section 9.2.5, each row padded with zeros.
+pub fn fixed_coefficients(order: usize) -> [i32; 4]
     requires { ⌜ order ≤ 4 ⌝ }
     ensures { λ r. ⌜ take order r ≡ fixedCoefficients order ⌝ }
 {
@@ -130,13 +130,4 @@ fn fixed_coefficients(order: usize) -> [i32; 4]
         return [3, -3, 1, 0];
     }
     [4, -6, 4, -1]
-}
-
-// A fixed predictor is a linear one with no shift.
-pub fn predict_fixed(order: usize, out: &mut [i32])
-    requires { ⌜ (order ≤ 4) × (order ≤ length (now out)) ⌝ }
-    ensures { λ r. ⌜ now (out .exit) ≡ predict (fixedCoefficients order) 0 (take order (now (out .entry))) (drop order (now (out .entry))) ⌝ }
-{
-    let coefficients = fixed_coefficients(order);
-    predict_lpc_low_order(&coefficients[..order], 0, out);
 }

@@ -1,7 +1,7 @@
-// Samples stored as they are, and the coded residual (RFC 9639 sections 9.2.4 and 9.2.7), each into the part of a channel
-// that it is for. Each answer is that of the definition; where one stops, the part holds anything.
+// Samples stored as they are, and the coded residual (RFC 9639 sections 9.2.4 and 9.2.7). Each decoder fills the slice
+// that it is lent and answers what the definition reads. On a refusal the slice may hold anything.
 use super::Decoded;
-use super::answers::Sample;
+use super::answers::SampleRead;
 use error::Refusal;
 use input::Bits;
 use reading::Place;
@@ -14,17 +14,17 @@ ghost use Rattle.reading.specs.Places.{runAt};
 ghost use Rattle.rfc9639.specs.Integers.{sample};
 ghost use Rattle.rfc9639.specs.Residual.{folded as foldedOf, rice, partition, residual};
 ghost use Rattle.subframe.specs.Answers.{means};
-ghost use Rattle.subframe.specs.Private.{sampled};
+ghost use Rattle.subframe.specs.Private.{sampleReadAt};
 
-pub fn read_sample(s: &[u8], at: Place, width: u32) -> Sample
+pub fn read_sample(s: &[u8], at: Place, width: u32) -> SampleRead
     requires { ⌜ width ≤ 32 ⌝ }
-    ensures { λ r. ⌜ sampled r ≡ runAt (sample width) (now (s .entry)) at ⌝ }
+    ensures { λ r. ⌜ sampleReadAt r ≡ runAt (sample width) (now (s .entry)) at ⌝ }
 {
     let read = input::read_bits(s, at, width);
     let Bits::Value(v, p) = read else {
-        return Sample::Short;
+        return SampleRead::Short;
     };
-    Sample::Value(number::low32(signed::sign_extend(v, width)), p)
+    SampleRead::Value(number::low32(signed::sign_extend(v, width)), p)
 }
 
 // As many samples as `out` has (RFC 9639 section 9.2.4).
@@ -40,12 +40,12 @@ pub fn decode_verbatim(s: &[u8], at: Place, width: u32, out: &mut [i32]) -> Deco
     while i < out.len() {
         let read = read_sample(s, p, width);
         match read {
-            Sample::Value(x, q) => {
+            SampleRead::Value(x, q) => {
                 out[i] = x;
                 p = q;
                 i += 1;
             }
-            Sample::Short => {
+            SampleRead::Short => {
                 return Decoded::Refused(Refusal::CutShort);
             }
         }
@@ -53,7 +53,7 @@ pub fn decode_verbatim(s: &[u8], at: Place, width: u32, out: &mut [i32]) -> Deco
     Decoded::Done(p)
 }
 
-// The quotient and the remainder of k bits as one number, of which 32 bits are kept.
+// The low 32 bits of the number with this quotient and this remainder of k bits.
 fn folded(q: u64, r: u64, k: u32) -> u32
     requires { ⌜ (q < 2 ^ 33) × (k ≤ 31) × (r < 2 ^ k) ⌝ }
     ensures { λ n. ⌜ n ≡ foldedOf k q r ⌝ }
@@ -62,19 +62,19 @@ fn folded(q: u64, r: u64, k: u32) -> u32
 }
 
 // One residual of Rice parameter k (RFC 9639 section 9.2.7.2).
-fn read_rice(s: &[u8], at: Place, k: u32) -> Sample
+fn read_rice(s: &[u8], at: Place, k: u32) -> SampleRead
     requires { ⌜ k ≤ 31 ⌝ }
-    ensures { λ r. ⌜ sampled r ≡ runAt (rice k) (now (s .entry)) at ⌝ }
+    ensures { λ r. ⌜ sampleReadAt r ≡ runAt (rice k) (now (s .entry)) at ⌝ }
 {
     let high = input::read_unary(s, at);
     let Bits::Value(q, p) = high else {
-        return Sample::Short;
+        return SampleRead::Short;
     };
     let low = input::read_bits(s, p, k);
     let Bits::Value(r, next) = low else {
-        return Sample::Short;
+        return SampleRead::Short;
     };
-    Sample::Value(signed::unfold(folded(q, r, k)), next)
+    SampleRead::Value(signed::unfold(folded(q, r, k)), next)
 }
 
 // As many residuals as `out` has.
@@ -90,12 +90,12 @@ fn decode_rice(s: &[u8], at: Place, k: u32, out: &mut [i32]) -> Decoded
     while i < out.len() {
         let read = read_rice(s, p, k);
         match read {
-            Sample::Value(x, q) => {
+            SampleRead::Value(x, q) => {
                 out[i] = x;
                 p = q;
                 i += 1;
             }
-            Sample::Short => {
+            SampleRead::Short => {
                 return Decoded::Refused(Refusal::CutShort);
             }
         }
@@ -103,7 +103,7 @@ fn decode_rice(s: &[u8], at: Place, k: u32, out: &mut [i32]) -> Decoded
     Decoded::Done(p)
 }
 
-// A partition (RFC 9639 section 9.2.7). Its last parameter, residuals stored as they are, is not done.
+// A partition (RFC 9639 section 9.2.7). The last parameter means residuals stored as they are, which is not supported.
 fn decode_partition(s: &[u8], at: Place, method: u32, out: &mut [i32]) -> Decoded
     requires { ⌜ method < 2 ⌝ }
     ensures { λ r. ⌜ means r (now (out .exit)) ≡ runAt (partition method (length (now (out .entry)))) (now (s .entry)) at ⌝ }
@@ -118,7 +118,7 @@ fn decode_partition(s: &[u8], at: Place, method: u32, out: &mut [i32]) -> Decode
     decode_rice(s, p, k as u32, out)
 }
 
-// `count` partitions of `size` residuals each: as many as `out` has.
+// `count` partitions of `size` residuals each, which fill `out`.
 fn decode_equal_partitions(
     s: &[u8],
     at: Place,
@@ -153,7 +153,7 @@ fn decode_equal_partitions(
     Decoded::Done(p)
 }
 
-// All partitions: the first is shorter by the warm-up.
+// All partitions. The first has fewer residuals, by the number of warm-up samples.
 fn decode_partitions(
     s: &[u8],
     at: Place,
@@ -174,7 +174,7 @@ fn decode_partitions(
     decode_equal_partitions(s, p, method, size, count, &mut out[first..])
 }
 
-// The residual behind `warm` samples of a block of n (RFC 9639 section 9.2.7).
+// The residual of a block of n samples after `warm` warm-up samples (RFC 9639 section 9.2.7).
 pub fn decode_residual(s: &[u8], at: Place, warm: usize, n: usize, out: &mut [i32]) -> Decoded
     requires { ⌜ (warm ≤ n) × (length (now out) ≡ n - warm) ⌝ }
     ensures { λ r. ⌜ means r (now (out .exit)) ≡ runAt (residual warm n) (now (s .entry)) at ⌝ }

@@ -1,4 +1,4 @@
--- Some bits of a byte: a shift to the right, and the remainder by a power of two. Assumes nothing.
+-- `chunk`: bits of a byte, by a shift to the right and a remainder by a power of two. Assumes nothing.
 use borrow.Author.Needs.{needs}
 use native.Mathlib.Omega.{arith}
 use lib.Pow.{pow-pos}

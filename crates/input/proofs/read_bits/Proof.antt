@@ -1,5 +1,4 @@
--- The word that the loop makes is the last 64 bits of what the question gets. The invariant (Unread): what is still to
--- be read from here makes the answer. Assumes nothing.
+-- `read_bits`: the bits that are still to be read complete the answer (Unread). Assumes nothing.
 use native.Mathlib.Omega.{arith}
 use mathlib.Core.Path.{sym}
 use borrow.Author.Needs.{needs}
@@ -46,7 +45,7 @@ chunk-requires : tie.Need-chunk-requires Inv-loop μ-loop
 chunk-requires c κs = search needs
 
 add-acc : tie.Need-add-acc Inv-loop μ-loop
-add-acc c = record { fits = fits _ _ _ _ _ _ (c .before .before .before .before .before .loop .inv) _ (c .before .before .lesser .ensures .1) (omega arith) (omega arith) (c .chunk .ensures) }
+add-acc c = record { fits = fits _ _ _ _ _ _ (c .before .before .before .before .before .loop .inv) _ (omega arith) (omega arith) (omega arith) (c .chunk .ensures) }
 
 skip-requires : tie.Need-skip-requires Inv-loop μ-loop
 skip-requires c κs = search needs
@@ -55,11 +54,11 @@ sub-left : tie.Need-sub-left Inv-loop μ-loop
 sub-left c = search needs
 
 loop-less : tie.Need-loop-less Inv-loop μ-loop
-loop-less c = omega (arith, c .before .before .before .lesser .ensures .2 (omega arith) (omega arith))
+loop-less c = search needs
 
 loop-again : tie.Need-loop-again Inv-loop μ-loop
 loop-again c =
-    step _ _ _ _ _ _ (c .before .before .before .before .before .before .loop .inv) _ (c .before .before .before .lesser .ensures .1) (omega arith) (omega arith) (c .before .chunk .ensures) (c .skip .ensures)
+    step _ _ _ _ _ _ (c .before .before .before .before .before .before .loop .inv) _ (omega arith) (omega arith) (omega arith) (c .before .chunk .ensures) (c .skip .ensures)
 
 returns-3 : tie.Need-returns-3 Inv-loop μ-loop
 returns-3 c = end _ _ _ _ _ _ (c .before .loop .inv) (omega arith)

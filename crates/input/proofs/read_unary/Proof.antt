@@ -1,5 +1,4 @@
--- The loop's count is that of the zeros that the question gets. The invariant (Passed): what is still to be read from
--- here makes the answer. The measure is the bits that are left. Assumes nothing.
+-- `read_unary`: the zeros that are still to be read complete the count (Passed). Assumes nothing.
 use Prim.Native.Nat.{_*_, _-_}
 use native.Mathlib.Omega.{arith}
 use mathlib.Core.Path.{sym}

@@ -1,4 +1,4 @@
--- The place some bits on is the one of the position so many on. Assumes nothing.
+-- `skip`: the place of the position m bits later. Assumes nothing.
 use borrow.Author.Needs.{needs}
 use native.Mathlib.Omega.{arith}
 use Rattle.reading.proofs.Running.{place-is}

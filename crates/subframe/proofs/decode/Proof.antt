@@ -1,4 +1,4 @@
--- What was decoded, or zeros. Assumes nothing.
+-- `decode`: the samples, or zeros on a refusal. Assumes nothing.
 use mathlib.Core.Path.{ap, _∙_}
 use borrow.Author.Needs.{needs}
 use lib.IntN.{pos}

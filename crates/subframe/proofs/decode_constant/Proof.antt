@@ -1,4 +1,4 @@
--- One sample is read, and stands everywhere. Assumes nothing.
+-- `decode_constant`: one sample is read and fills the slice. Assumes nothing.
 use mathlib.Core.Path.{ap, _∙_}
 use borrow.Author.Needs.{needs}
 use lib.ListN.{length, replicate}

@@ -1,4 +1,4 @@
--- Each kind by its decoder. Assumes nothing.
+-- `decode_kind`: each kind by its decoder. Assumes nothing.
 use Prim.Native.Nat.{_≤_}
 use mathlib.Core.Path.{_≡_, ap, sym, _∙_, subst}
 use borrow.Author.Needs.{needs}

@@ -1,21 +1,22 @@
--- The warm-up into the first part, and what is behind the precision and the shift over the whole. Assumes nothing.
+-- `decode_lpc`: the warm-up samples, the precision and the shift, then the rest. Assumes nothing.
 use Prim.Native.Nat.{ℕ}
 use native.Mathlib.Omega.{arith}
-use mathlib.Core.Path.{_≡_, ap, ap₂, sym, _∙_}
+use mathlib.Core.Path.{_≡_, ap₂, sym, _∙_}
 use mathlib.Core.List.{List, _++_}
 use borrow.Author.Needs.{needs}
 use lib.IntN.{ℤ}
 use lib.ListN.{length, drop}
 use lib.Seq.{length-take-le}
 use Rattle.reading.specs.declared.Place.{Place}
-use Rattle.reading.specs.Reading.{many}
-use Rattle.reading.specs.Places.{gotAt, runAt}
+use Rattle.reading.specs.Reading.{Ask, _>>=_, many}
+use Rattle.reading.specs.Places.{runAt}
+use Rattle.reading.proofs.Running.{bind-got}
+use Rattle.error.proofs.Passing.{bind-refusal}
 use Rattle.rfc9639.specs.Integers.{sample}
-use Rattle.subframe.specs.Answers.{means}
-use Rattle.rfc9639.specs.Subframe.{quantization, lpcBehind}
-use Rattle.subframe.specs.Private.{quantized}
-use Rattle.subframe.proofs.Lending.{done-is, refused-is, first-size, first-taken, between-long}
-use Rattle.subframe.proofs.Behind.{quantization-got, quantization-sound, quantization-stops, lpc-stops-warm, lpc-stops-quantization, lpc-behind}
+use Rattle.rfc9639.specs.Subframe.{lpc, quantization, lpcBehind}
+use Rattle.subframe.specs.Private.{Quantization, quantizerAt}
+use Rattle.subframe.proofs.Lending.{answer-is, front-stops, front-then, first-taken, between-long}
+use Rattle.subframe.proofs.Behind.{quantization-sound}
 use Rattle.subframe.proofs.decode_lpc.Statement.{statement}
 use Rattle.subframe.proofs.decode_lpc.Tie as tie
 
@@ -37,7 +38,7 @@ enum-told c = search needs
 same-length : tie.Need-same-length
 same-length c = search needs
 
--- what the warm-up left, and what it is in the definition
+-- after the warm-up samples
 module _ (c : tie.After-decode-verbatim) where
   abbrev start : tie.Start
   start = c .before .before .before
@@ -48,26 +49,26 @@ module _ (c : tie.After-decode-verbatim) where
   abbrev out : List ℤ
   out = start .args .out .now
 
-  abbrev s : List ℕ
-  s = start .args .s .now
+  abbrev reader : ℕ → Ask (List ℤ)
+  reader k = many k (sample (start .args .width))
 
-  abbrev at : Place
-  at = start .args .at
+  abbrev quantized-then : List ℤ → Quantization → Ask (List ℤ)
+  quantized-then w q = lpcBehind order (q .0) (q .1) w (length out)
+
+  abbrev rest : List ℤ → Ask (List ℤ)
+  rest w = quantization >>= quantized-then w
 
   abbrev warm : List ℤ
   warm = c .decode-verbatim .last .1 .1 .1 .0
-
-  read : means (c .decode-verbatim .result) warm ≡ runAt (many order (sample (start .args .width))) s at
-  read = c .decode-verbatim .ensures ∙ first-size order out (start .pre .2) (λ k. runAt (many k (sample (start .args .width))) s at)
 
   whole : length (warm ++ drop order out) ≡ length out
   whole = between-long order out (start .pre .2) warm (c .decode-verbatim .kept .1 .1 .1 .0)
 
 returns : tie.Need-returns
+unfolding lpc
 returns c =
-    let v = c .before .before .before in
-    ap (λ r. means r (warm v ++ drop (order v) (out v))) (c .enum-told .given .1)
-    ∙ sym (lpc-stops-warm (order v) (start v .args .width) (length (out v)) (s v) (at v) (c .enum-told .given .0 .0) (refused-is (warm v) (read v) (c .enum-told .given .1)))
+    let v = c .before .before .before in let s = start v in
+    front-stops (reader v) (s .args .s .now) (s .args .at) (order v) (out v) (s .pre .2) (warm v) (v .decode-verbatim .ensures) (rest v) (c .enum-told .given .1) _
 
 read-quantizer-requires : tie.Need-read-quantizer-requires
 read-quantizer-requires c κs = search needs
@@ -75,7 +76,7 @@ read-quantizer-requires c κs = search needs
 enum-known-quantizer : tie.Need-enum-known-quantizer
 enum-known-quantizer c = search needs
 
--- where the warm-up ended
+-- the place after the warm-up samples
 module _ (c : tie.After-read-quantizer) where
   abbrev verbatim : tie.After-decode-verbatim
   verbatim = c .before .before .before .before .before
@@ -83,17 +84,17 @@ module _ (c : tie.After-read-quantizer) where
   abbrev place : Place
   place = c .before .before .warm .given .0 .0
 
-  got : runAt (many (order verbatim) (sample (start verbatim .args .width))) (s verbatim) (at verbatim) ≡ gotAt (warm verbatim) place
-  got = done-is (warm verbatim) (read verbatim) (c .before .before .warm .given .1)
+  onward : runAt (rest verbatim (warm verbatim)) (start verbatim .args .s .now) place
+      ≡ runAt (reader verbatim (order verbatim) >>= rest verbatim) (start verbatim .args .s .now) (start verbatim .args .at)
+  onward =
+      let v = verbatim in let s = start v in
+      front-then (reader v) (s .args .s .now) (s .args .at) (order v) (out v) (s .pre .2) (warm v) (v .decode-verbatim .ensures) (rest v) (c .before .before .warm .given .1)
 
-  told : quantized (c .read-quantizer .result) ≡ runAt quantization (s verbatim) place
-  told = c .read-quantizer .ensures
-
-decode-lpc-residual-requires : tie.Need-decode-lpc-residual-requires
-decode-lpc-residual-requires c κs =
-    let k = c .before .before in let q = k .before .before in let v = verbatim q in
-    let sound = quantization-sound (s v) (place q) (told q) (k .quantizer .given .1) in
-    (sound .few, sound .near, start v .pre .1, omega (arith, whole v, start v .pre .2))
+decode-lpc-after-shift-requires : tie.Need-decode-lpc-after-shift-requires
+decode-lpc-after-shift-requires c κs =
+    let k = c .before .before in let q = k .before .before in let v = verbatim q in let s = start v in
+    let sound = quantization-sound (s .args .s .now) (place q) (answer-is quantizerAt (q .read-quantizer .ensures) (k .quantizer .given .1)) in
+    (sound .few, sound .near, s .pre .1, omega (arith, whole v, s .pre .2))
 
 enum-known-quantizer-2 : tie.Need-enum-known-quantizer-2
 enum-known-quantizer-2 c = search needs
@@ -102,23 +103,26 @@ same-length-2 : tie.Need-same-length-2
 same-length-2 c = search needs
 
 returns-2 : tie.Need-returns-2
+unfolding lpc
 returns-2 c =
-    let r = c .before in let k = r .before .before .before in let q = k .before .before in let v = verbatim q in
-    r .decode-lpc-residual .ensures
-    ∙ ap₂ (λ (w : List ℤ) n. runAt (lpcBehind (order v) (k .quantizer .given .0 .0) (k .quantizer .given .0 .1 .0) w n) (s v) (k .quantizer .given .0 .1 .1 .0))
-    (first-taken (order v) (out v) (start v .pre .2) (warm v) (v .decode-verbatim .kept .1 .1 .1 .0) (drop (order v) (out v))) (whole v)
-    ∙ sym
-    (lpc-behind (order v) (start v .args .width) (length (out v)) (s v) (at v) (got q) (quantization-got (s v) (place q) (told q) (k .quantizer .given .1)))
+    let r = c .before in let k = r .before .before .before in let q = k .before .before in let v = verbatim q in let s = start v in
+    r .decode-lpc-after-shift .ensures
+    ∙ ap₂ (λ (w : List ℤ) n. runAt (lpcBehind (order v) (k .quantizer .given .0 .0) (k .quantizer .given .0 .1 .0) w n) (s .args .s .now) (k .quantizer .given .0 .1 .1 .0))
+    (first-taken (order v) (out v) (s .pre .2) (warm v) (v .decode-verbatim .kept .1 .1 .1 .0) (drop (order v) (out v))) (whole v)
+    ∙ sym (bind-got quantization (s .args .s .now) (place q) (quantized-then v (warm v)) (answer-is quantizerAt (q .read-quantizer .ensures) (k .quantizer .given .1)))
+    ∙ onward q
 
 same-length-3 : tie.Need-same-length-3
 same-length-3 c = search needs
 
 returns-3 : tie.Need-returns-3
+unfolding lpc
 returns-3 c =
-    let k = c .before in let q = k .before .before in let v = verbatim q in
+    let k = c .before in let q = k .before .before in let v = verbatim q in let s = start v in
     sym
-    (lpc-stops-quantization (order v) (start v .args .width) (length (out v)) (s v) (at v) (got q) (k .quantizer2 .given .0 .0)
-    (quantization-stops (s v) (place q) (told q) (k .quantizer2 .given .1)))
+    (bind-refusal quantization (s .args .s .now) (place q) (quantized-then v (warm v)) (k .quantizer2 .given .0 .0)
+    (answer-is quantizerAt (q .read-quantizer .ensures) (k .quantizer2 .given .1)))
+    ∙ onward q
 
 pub decode-lpc-spec : {M : Type 1} → statement M
 decode-lpc-spec =
@@ -133,7 +137,7 @@ decode-lpc-spec =
     returns
     read-quantizer-requires
     enum-known-quantizer
-    decode-lpc-residual-requires
+    decode-lpc-after-shift-requires
     enum-known-quantizer-2
     same-length-2
     returns-2

@@ -1,4 +1,4 @@
--- Each number is shifted, in its turn (Mapped). Assumes nothing.
+-- `shift_all`: each turn shifts one number (Mapped). Assumes nothing.
 use Prim.Native.Nat.{_-_}
 use native.Mathlib.Omega.{arith}
 use borrow.Author.Needs.{needs}
@@ -7,9 +7,6 @@ use Rattle.subframe.proofs.Channels.{Mapped, begin, turn, end}
 use Rattle.rfc9639.specs.Integers.{shiftUp}
 use Rattle.subframe.proofs.shift_all.Statement.{statement}
 use Rattle.subframe.proofs.shift_all.Tie as tie
-use Rattle.subframe.proofs.shift_all.Reads as reads
-use Rattle.subframe.proofs.shift_all.Lts as lts
-use Rattle.number.proofs.shift_up.Reads as shift-up-reads
 
 abbrev Inv-loop : tie.InvT-loop
 Inv-loop out₀ wasted i₀ out i = Mapped (shiftUp wasted) out₀ out i

@@ -1,4 +1,4 @@
--- The range that `channel` told lies in the samples. Assumes nothing.
+-- `channel_at`: the range that `channel` answers lies in the samples. Assumes nothing.
 use native.Mathlib.Omega.{arith}
 use borrow.Author.Needs.{needs}
 use lib.ListN.{length}

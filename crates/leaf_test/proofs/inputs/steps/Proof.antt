@@ -1,4 +1,4 @@
--- Each step in its turn. Assumes nothing.
+-- `steps`: one step a turn. Assumes nothing.
 use Prim.Native.Nat.{_≤_, _-_}
 use borrow.Author.Needs.{needs}
 use lib.ListN.{length}

@@ -1,4 +1,4 @@
--- Each byte in its turn. Assumes nothing.
+-- `bytes`: one byte a turn. Assumes nothing.
 use Prim.Native.Nat.{_≤_, _-_}
 use borrow.Author.Needs.{needs}
 use lib.ListN.{length}

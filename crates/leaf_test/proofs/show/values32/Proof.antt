@@ -1,4 +1,4 @@
--- Each number in its turn. Assumes nothing.
+-- `values32`: one number a turn. Assumes nothing.
 use Prim.Native.Nat.{_≤_, _-_}
 use borrow.Author.Needs.{needs}
 use lib.ListN.{length}

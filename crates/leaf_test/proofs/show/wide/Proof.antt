@@ -1,4 +1,4 @@
--- 64 bits have room for what 32 hold. Assumes nothing.
+-- `wide`: a 32-bit number fits 64 bits. Assumes nothing.
 use borrow.Author.Needs.{needs}
 use Rattle.rfc9639.proofs.Machine.{widen-fits}
 use Rattle.leaf_test.proofs.show.wide.Statement.{statement}

@@ -1,4 +1,4 @@
--- As many as are asked for are lent of the array. Assumes nothing.
+-- `run`: the first n samples of the array are lent. Assumes nothing.
 use native.Mathlib.Omega.{arith}
 use mathlib.Core.Path.{sym}
 use borrow.Author.Needs.{needs}

@@ -1,4 +1,4 @@
--- The order of a type, as the definition has it. Assumes nothing.
+-- `order_of`: the order of a type, as the definition has it. Assumes nothing.
 use borrow.Author.Needs.{needs}
 use Rattle.rfc9639.specs.Subframe.{orderOf}
 use Rattle.subframe.proofs.header.order_of.Statement.{statement}

@@ -1,4 +1,4 @@
--- The precision and the shift, as the definition reads them. Assumes nothing.
+-- `read_quantizer`: the precision and the shift, as the definition reads them. Assumes nothing.
 use Prim.Native.Nat.{_<_}
 use borrow.Author.Needs.{needs}
 use native.Mathlib.Omega.{arith}
@@ -23,7 +23,7 @@ enum-told c = search needs
 returns : tie.Need-returns
 returns c = sym (precision-short _ _ (read-short 4 _ _ (search needs) (c .before .before .read-bits .ensures) (c .enum-told .given .1)))
 
--- the precision less one that was read
+-- the precision minus one, as it was read
 first-got : (c : tie.After-first) → runAt (bits 4) (c .before .before .before .before .args .s .now) (c .before .before .before .before .args .at) ≡ gotAt (c .first .given .0 .0) (c .first .given .0 .1 .0)
 first-got c = read-got 4 _ _ (search needs) (c .before .before .read-bits .ensures) (c .first .given .1)
 
@@ -46,7 +46,7 @@ below-15 c = omega (arith, bits-below 4 _ _ (first-got (c .before .before)), c .
 returns-3 : tie.Need-returns-3
 returns-3 c = sym (shift-short _ _ (first-got (c .before .before .before .before .before)) (below-15 (c .before .before .before)) (read-short 5 _ _ (search needs) (c .before .before .read-bits2 .ensures) (c .enum-told2 .given .1)))
 
--- the shift behind it
+-- the shift after it
 second-got : (c : tie.After-second) → runAt (bits 5) (c .before .before .before .before .before .before .before .before .before .args .s .now) (c .before .before .before .before .before .first .given .0 .1 .0) ≡ gotAt (c .second .given .0 .0) (c .second .given .0 .1 .0)
 second-got c = read-got 5 _ _ (search needs) (c .before .before .read-bits2 .ensures) (c .second .given .1)
 

@@ -1,4 +1,4 @@
--- A header, as the definition reads it. Assumes nothing.
+-- `read_subframe_header`: a header, as the definition reads it. Assumes nothing.
 use borrow.Author.Needs.{needs}
 use mathlib.Core.Path.{_≡_, sym, _∙_}
 use Rattle.reading.specs.Reading.{bits}

@@ -1,4 +1,4 @@
--- The wasted bits, judged as the definition does. Assumes nothing.
+-- `read_wasted`: the wasted bits, checked as the definition does. Assumes nothing.
 use Prim.Native.Nat.{ℕ}
 use borrow.Author.Needs.{needs}
 use mathlib.Core.Path.{_≡_, sym}
@@ -44,7 +44,7 @@ enum-told-2 c = search needs
 returns-4 : tie.Need-returns-4
 returns-4 c = sym (run-short _ _ _ (flag-got (c .before .before .before .before .before)) (c .before .before .before .if1 .left) (unary-short _ _ (c .before .before .read-unary .ensures) (c .enum-told2 .given .1)))
 
--- the zeros behind it, and their count
+-- the zeros after it, and their count
 run-got : (c : tie.After-run) → (z : ℕ) × (runAt zeros (c .before .before .before .before .before .before .before .before .before .args .s .now) (c .before .before .before .before .before .flag .given .0 .1 .0) ≡ gotAt z (c .run .given .0 .1 .0)) × (c .run .given .0 .0 ≡ count z)
 run-got c = unary-got _ _ (c .before .before .read-unary .ensures) (c .run .given .1)
 

@@ -1,4 +1,4 @@
--- A type by its code, test by test as in the definition. Assumes nothing.
+-- `subframe_type`: a type by its code, test by test as in the definition. Assumes nothing.
 use borrow.Author.Needs.{needs}
 use borrow.Author.Tests.{eq-eqb, ne-eqb, lt-ltb, le-ltb, le-leb, lt-leb}
 use Rattle.rfc9639.specs.Subframe.{subframeType}

@@ -1,15 +1,12 @@
--- `dot` meets its contract. The loop's invariant (Dotted): j products are summed up, and so many are small. Assumes nothing.
+-- `dot`: after j turns the sum of j products, which is small enough (Dotted). Assumes nothing.
 use Prim.Native.Nat.{_-_}
 use native.Mathlib.Omega.{arith}
 use mathlib.Core.Path.{refl}
 use mathlib.Core.List.{reverse}
 use borrow.Author.Needs.{needs}
-use lib.IntN.{pos}
-use lib.ListN.{length, getD}
-use mir.Syntax.{w32}
-use mir.Val.{SFits}
+use lib.ListN.{length}
 use Rattle.number.proofs.Sizes.{Dotted, begin, room, end}
-use Rattle.subframe.proofs.PredictSums.{asks, turn}
+use Rattle.subframe.proofs.PredictSums.{mul-add-asks, turn}
 use Rattle.subframe.proofs.predict.dot.Statement.{statement}
 use Rattle.subframe.proofs.predict.dot.Tie as tie
 
@@ -40,18 +37,10 @@ mul-mul-add-2 c = search needs
 shared-slice-copy-out-mul-add-2 : tie.Need-shared-slice-copy-out-mul-add-2 Inv-loop μ-loop
 shared-slice-copy-out-mul-add-2 c = search needs
 
-module _ (c : tie.After-mul-add-arg2 Inv-loop μ-loop) where
-  abbrev l : tie.At-loop Inv-loop μ-loop
-  l = c .before .before .before
-
-  coef : SFits w32 (getD (l .before .args .coefficients .now) (l .loop .j) (pos 0))
-  coef = record { sfits = search needs }
-
-  elem : SFits w32 (getD (l .before .args .before .now) (length (l .before .args .before .now) - 1 - l .loop .j) (pos 0))
-  elem = record { sfits = search needs }
-
 mul-add-requires : tie.Need-mul-add-requires Inv-loop μ-loop
-mul-add-requires c κs = let s = l c .before in asks (s .args .coefficients .now) (s .args .before .now) (l c .loop .inv) (s .pre .0) (s .pre .1) (s .pre .2) (omega arith) (coef c)
+mul-add-requires c κs =
+    let l = c .before .before .before in let s = l .before in
+    mul-add-asks (s .args .coefficients .now) (s .args .before .now) (l .loop .inv) (s .pre) (omega arith) (record { sfits = search needs })
 
 add-j : tie.Need-add-j Inv-loop μ-loop
 add-j c = search needs
@@ -61,8 +50,9 @@ loop-less c = search needs
 
 loop-again : tie.Need-loop-again Inv-loop μ-loop
 loop-again c =
-    let d = c .before in let s = l d .before in
-    turn (s .args .coefficients .now) (s .args .before .now) (l d .loop .inv) (s .pre .0) (s .pre .1) (s .pre .2) (omega arith) (coef d) _ refl (elem d) _ (c .mul-add .ensures) (record { sfits = c .mul-add .ok })
+    let l = c .before .before .before .before in let s = l .before in
+    turn (s .args .coefficients .now) (s .args .before .now) (l .loop .inv) (s .pre) (omega arith) (record { sfits = search needs }) _ refl
+    (record { sfits = search needs }) _ (c .mul-add .ensures) (record { sfits = c .mul-add .ok })
 
 returns : tie.Need-returns Inv-loop μ-loop
 returns c = (end (c .before .loop .inv) (c .before .before .pre .0) (omega arith), room (c .before .loop .inv) (c .before .before .pre .0))

@@ -1,4 +1,4 @@
--- `fixed_coefficients` meets its contract, row by row. Assumes nothing.
+-- `fixed_coefficients`: row by row. Assumes nothing.
 use native.Mathlib.Omega.{arith}
 use mathlib.Core.Path.{_≡_}
 use Rattle.rfc9639.specs.Prediction.{fixedCoefficients}

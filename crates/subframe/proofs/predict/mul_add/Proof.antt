@@ -1,4 +1,4 @@
--- `mul_add` meets its contract: one product more is exact at 64 bits. Assumes nothing.
+-- `mul_add`: one more product is exact in 64 bits. Assumes nothing.
 use mathlib.Core.Path.{_≡_, ap₂, _∙_}
 use lib.IntN.{ℤ, _+ℤ_, _*ℤ_}
 use mir.Syntax.{w32, w64}

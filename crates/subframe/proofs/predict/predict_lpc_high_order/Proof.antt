@@ -1,4 +1,4 @@
--- `predict_lpc_high_order` meets its contract. The loop's invariant (Restored): the first i samples are restored. Assumes nothing.
+-- `predict_lpc_high_order`: each turn restores one sample (Restored). Assumes nothing.
 use Prim.Native.Nat.{_-_}
 use native.Mathlib.Omega.{arith}
 use mathlib.Core.Path.{sym, _∙_}

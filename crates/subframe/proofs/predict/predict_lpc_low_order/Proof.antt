@@ -1,5 +1,4 @@
--- `predict_lpc_low_order` meets its contract: the first twelve samples as for any order, then the loop's invariant (Restored) from there on.
--- Twelve taps make the coefficients' sum. Assumes nothing.
+-- `predict_lpc_low_order`: the first twelve samples as for any order, then one a turn by twelve taps. Assumes nothing.
 use Prim.Native.Nat.{_-_}
 use native.Mathlib.Omega.{arith}
 use mathlib.Core.Path.{_≡_, sym, _∙_}
@@ -21,7 +20,7 @@ Inv-loop coefficients shift out₀ taps i₀ out i = Restored coefficients shift
 abbrev μ-loop : tie.MeasureT-loop
 μ-loop coefficients shift out₀ taps i₀ out i = length out₀ - i
 
--- the slice as it comes, and its first twelve
+-- the first twelve samples of the slice
 first-size : (c : tie.Else1 Inv-loop μ-loop) → length (take 12 (c .before .args .out .now)) ≡ 12
 first-size c = length-take-le 12 (c .before .args .out .now) (omega arith)
 

@@ -1,4 +1,4 @@
--- `restore` meets its contract: the shifted sum and the residual are added without loss, and 32 bits are kept. Assumes nothing.
+-- `restore`: the shifted sum plus the residual does not overflow, and its low 32 bits are kept. Assumes nothing.
 use native.Mathlib.Omega.{arith}
 use mathlib.Core.Path.{_≡_, ap, ap₂, _∙_}
 use borrow.Author.Needs.{needs}

@@ -1,4 +1,4 @@
--- `taps_of` meets its contract. The loop's invariant (Padding): the first j coefficients are put down. Assumes nothing.
+-- `taps_of`: after j turns the first j coefficients are stored (Padding). Assumes nothing.
 use Prim.Native.Nat.{_-_}
 use native.Mathlib.Omega.{arith}
 use borrow.Author.Needs.{needs}

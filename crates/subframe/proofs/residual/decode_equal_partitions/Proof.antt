@@ -1,4 +1,4 @@
--- Each turn lends the next part to the decoder of a partition (Parted). Assumes nothing.
+-- `decode_equal_partitions`: each turn decodes one partition into its part of the slice (Parted). Assumes nothing.
 use native.Mathlib.Omega.{arith}
 use mathlib.Core.Path.{sym}
 use borrow.Author.Needs.{needs}

@@ -1,8 +1,8 @@
--- The parameter, then the residuals that it codes, or a refusal. Assumes nothing.
+-- `decode_partition`: the parameter, then the residuals coded with it, or a refusal. Assumes nothing.
 use native.Mathlib.Omega.{arith}
 use borrow.Author.Needs.{needs}
 use lib.Pow.{pow-pos}
-use Rattle.subframe.proofs.Partitions.{parameters, no-parameter, parameter-below, partition-as-is, partition-coded}
+use Rattle.subframe.proofs.Partitions.{parameter-count, no-parameter, parameter-below, partition-as-is, partition-coded}
 use Rattle.subframe.proofs.residual.decode_partition.Statement.{statement}
 use Rattle.subframe.proofs.residual.decode_partition.Tie as tie
 
@@ -25,7 +25,7 @@ shl-if1 : tie.Need-shl-if1
 shl-if1 c = search needs
 
 sub-if1 : tie.Need-sub-if1
-sub-if1 c = let m = c .before .before .before .before .before in rw (parameters (m .args .method) (m .pre)) (pow-pos _)
+sub-if1 c = let m = c .before .before .before .before .before in rw (parameter-count (m .args .method) (m .pre)) (pow-pos _)
 
 returns-2 : tie.Need-returns-2
 returns-2 c =

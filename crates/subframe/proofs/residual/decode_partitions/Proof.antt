@@ -1,15 +1,15 @@
--- The first part is lent, then the rest: what both leave is the whole. Assumes nothing.
+-- `decode_partitions`: the first partition, then the others, each into its part of the slice. Assumes nothing.
 use Prim.Native.Nat.{_-_}
 use native.Mathlib.Omega.{arith}
 use mathlib.Core.Path.{ap, sym, _∙_}
 use borrow.Author.Needs.{needs}
 use lib.ListN.{replicate}
 use lib.Seq.{length-take-le}
-use Rattle.reading.specs.Places.{runAt}
+use Rattle.reading.specs.Reading.{each}
 use Rattle.rfc9639.specs.Residual.{partition}
 use Rattle.subframe.specs.Answers.{means}
-use Rattle.subframe.proofs.Lending.{done-is, first-size, both-put}
-use Rattle.subframe.proofs.Partitions.{first-stops, first-then}
+use Rattle.subframe.proofs.Lending.{front-got, front-stops, both-put}
+use Rattle.subframe.proofs.Partitions.{first-then}
 use Rattle.subframe.proofs.residual.decode_partitions.Statement.{statement}
 use Rattle.subframe.proofs.residual.decode_partitions.Tie as tie
 
@@ -35,12 +35,10 @@ same-length : tie.Need-same-length
 same-length c = search needs
 
 returns : tie.Need-returns
+unfolding each
 returns c =
-    let b = c .before .before .before in
-    let a = b .before .before .before .args in
-    let d = b .decode-partition in
-    let told = d .ensures ∙ first-size (a .size - a .warm) (a .out .now) (omega arith) (λ n. runAt (partition (a .method) n) (a .s .now) (a .at)) in
-    first-stops (partition (a .method)) (a .size - a .warm) (replicate (a .count) (a .size)) (a .s .now) (a .at) (d .last .1 .1 .1 .0) told (c .enum-told .given .1) _
+    let b = c .before .before .before in let a = b .before .before .before .args in let d = b .decode-partition in
+    front-stops (partition (a .method)) (a .s .now) (a .at) (a .size - a .warm) (a .out .now) (omega arith) (d .last .1 .1 .1 .0) (d .ensures) _ (c .enum-told .given .1) _
 
 mul-decode-equal-partitions : tie.Need-mul-decode-equal-partitions
 mul-decode-equal-partitions c = search needs
@@ -62,14 +60,12 @@ same-length-2 c = search needs
 
 returns-2 : tie.Need-returns-2
 returns-2 c =
-    let b = c .before .before .before .before .before .before .before in
-    let a = b .before .before .before .args in
-    let d = b .decode-partition in
-    let r = c .before .decode-equal-partitions in
-    let told = d .ensures ∙ first-size (a .size - a .warm) (a .out .now) (omega arith) (λ n. runAt (partition (a .method) n) (a .s .now) (a .at)) in
+    let b = c .before .before .before .before .before .before .before in let a = b .before .before .before .args in
+    let d = b .decode-partition in let r = c .before .decode-equal-partitions in
     ap (means (r .result)) (both-put (a .size - a .warm) (a .out .now) (omega arith) (d .last .1 .1 .1 .0) (d .kept .1 .1 .1 .0) (r .last .1 .1 .1 .1 .1 .0))
     ∙ first-then (partition (a .method)) (a .size - a .warm) (replicate (a .count) (a .size)) (a .s .now) (a .at)
-    (done-is (d .last .1 .1 .1 .0) told (c .before .before .before .before .read .given .1)) (r .result) (r .last .1 .1 .1 .1 .1 .0) (r .ensures)
+    (front-got (partition (a .method)) (a .s .now) (a .at) (a .size - a .warm) (a .out .now) (omega arith) (d .last .1 .1 .1 .0) (d .ensures) (c .before .before .before .before .read .given .1))
+    (r .result) (r .last .1 .1 .1 .1 .1 .0) (r .ensures)
 
 pub decode-partitions-spec : {M : Type 1} → statement M
 decode-partitions-spec =

@@ -1,9 +1,9 @@
--- The residual's head, its shape judged, and its partitions. Assumes nothing.
+-- `decode_residual`: the method and the order, the partition size checked, and the partitions. Assumes nothing.
 use Prim.Native.Nat.{_<_}
 use native.Mathlib.Omega.{arith}
 use mathlib.Core.Path.{_∙_}
 use borrow.Author.Needs.{needs}
-use Rattle.subframe.proofs.Residuals.{parts-some, sizes-sum, no-method, reserved, no-order, order-below, uneven, too-short, shaped}
+use Rattle.subframe.proofs.Residuals.{parts-some, sizes-sum, no-method, method-reserved, no-order, order-below, size-uneven, size-below-warm, partitions-read}
 use Rattle.subframe.proofs.residual.decode_residual.Statement.{statement}
 use Rattle.subframe.proofs.residual.decode_residual.Tie as tie
 
@@ -20,7 +20,7 @@ returns : tie.Need-returns
 returns c = no-method _ _ _ _ (c .before .before .read-bits .ensures) (c .enum-told .given .1)
 
 returns-2 : tie.Need-returns-2
-returns-2 c = let b = c .before .before in reserved _ _ _ _ (b .before .before .read-bits .ensures) (b .first .given .1) (c .if1 .taken)
+returns-2 c = let b = c .before .before in method-reserved _ _ _ _ (b .before .before .read-bits .ensures) (b .first .given .1) (c .if1 .taken)
 
 read-bits-requires-2 : tie.Need-read-bits-requires-2
 read-bits-requires-2 c κs = search needs
@@ -37,7 +37,7 @@ returns-3 c =
     let a = b .before .before .before in
     no-order _ _ _ _ (a .before .before .read-bits .ensures) (a .first .given .1) (b .before .if1 .left) (b .read-bits2 .ensures) (c .enum-told2 .given .1)
 
--- the order is of four bits
+-- the order has four bits
 below : (c : tie.After-known-told2) → c .before .second .given .0 .0 < 16
 below c =
     let b = c .before .before .before in
@@ -54,7 +54,7 @@ returns-4 : tie.Need-returns-4
 returns-4 c =
     let b = c .before .before .before .before in
     let a = b .before .before .before in
-    uneven _ _ _ _ (a .before .before .read-bits .ensures) (a .first .given .1) (b .before .if1 .left) (b .read-bits2 .ensures)
+    size-uneven _ _ _ _ (a .before .before .read-bits .ensures) (a .first .given .1) (b .before .if1 .left) (b .read-bits2 .ensures)
     (c .before .before .second .given .1) (c .if2 .taken)
 
 div-size : tie.Need-div-size
@@ -65,7 +65,7 @@ returns-5 c =
     let e = c .before in
     let b = e .before .before .before .before in
     let a = b .before .before .before in
-    too-short _ _ _ _ (a .before .before .read-bits .ensures) (a .first .given .1) (b .before .if1 .left) (b .read-bits2 .ensures)
+    size-below-warm _ _ _ _ (a .before .before .read-bits .ensures) (a .first .given .1) (b .before .if1 .left) (b .read-bits2 .ensures)
     (e .before .before .second .given .1) (e .if2 .left) (c .if3 .taken)
 
 cast-decode-partitions : tie.Need-cast-decode-partitions
@@ -90,7 +90,7 @@ returns-6 c =
     let e = g .before in
     let b = e .before .before .before .before in
     let a = b .before .before .before in
-    shaped _ _ _ _ (a .before .before .read-bits .ensures) (a .first .given .1) (b .before .if1 .left) (b .read-bits2 .ensures)
+    partitions-read _ _ _ _ (a .before .before .read-bits .ensures) (a .first .given .1) (b .before .if1 .left) (b .read-bits2 .ensures)
     (e .before .before .second .given .1) (e .if2 .left) (g .if3 .left) (c .before .decode-partitions .ensures)
 
 pub decode-residual-spec : {M : Type 1} → statement M

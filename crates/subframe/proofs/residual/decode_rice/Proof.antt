@@ -1,4 +1,4 @@
--- Each turn puts one value of the reader into the slice (Filling). Assumes nothing.
+-- `decode_rice`: each turn stores one residual (Filling). Assumes nothing.
 use Prim.Native.Nat.{_-_}
 use native.Mathlib.Omega.{arith}
 use mathlib.Core.Path.{sym}

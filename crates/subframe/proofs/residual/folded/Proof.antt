@@ -1,4 +1,4 @@
--- The quotient and the remainder as one number, which 64 bits hold. Assumes nothing.
+-- `folded`: the quotient and the remainder as one number, which fits 64 bits. Assumes nothing.
 use native.Mathlib.Omega.{arith}
 use borrow.Author.Needs.{needs}
 use Rattle.rfc9639.specs.Residual.{folded}

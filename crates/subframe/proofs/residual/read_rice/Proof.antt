@@ -1,4 +1,4 @@
--- The quotient's count, the remainder, and what they unfold to. Assumes nothing.
+-- `read_rice`: the quotient, the remainder, and the residual of both. Assumes nothing.
 use native.Mathlib.Omega.{arith}
 use borrow.Author.Needs.{needs}
 use Rattle.subframe.proofs.Sampling.{no-quotient, no-remainder, quotient-below, remainder-below, rice-got}

@@ -1,4 +1,4 @@
--- The bits that the question gets, extended. Assumes nothing.
+-- `read_sample`: the bits that were read, sign-extended. Assumes nothing.
 use native.Mathlib.Omega.{arith}
 use borrow.Author.Needs.{needs}
 use Rattle.subframe.proofs.Sampling.{no-sample, sample-got}

@@ -1,4 +1,4 @@
--- The order is judged, the kind's samples are read, and the wasted bits put back. Assumes nothing.
+-- `decode_after_header`: the order checked, the samples by their kind, the wasted bits put back. Assumes nothing.
 use native.Mathlib.Omega.{arith}
 use mathlib.Core.Path.{sym}
 use borrow.Author.Needs.{needs}
@@ -6,8 +6,8 @@ use borrow.Author.Tests.{not-true, not-false}
 use lib.ListN.{length}
 use Rattle.reading.proofs.Running.{In, inside-in, runAt-out}
 use Rattle.subframe.proofs.Channels.{headed-short, headed-refused, headed-done}
-use Rattle.subframe.proofs.decode_headed.Statement.{statement}
-use Rattle.subframe.proofs.decode_headed.Tie as tie
+use Rattle.subframe.proofs.decode_after_header.Statement.{statement}
+use Rattle.subframe.proofs.decode_after_header.Tie as tie
 
 is-inside-requires : tie.Need-is-inside-requires
 is-inside-requires c κs = search needs
@@ -60,8 +60,8 @@ returns-4 c =
     headed-done (length (a .out .now)) (a .width) (a .h) (a .s .now) (a .at) (here (o .before)) (omega (arith, o .order-of .ensures, e .if2 .left))
     (d .decode-kind .last .1 .1 .1 .1 .0) (d .decode-kind .ensures) (k .decoded .given .1) (c .before .shift-all .ensures)
 
-pub decode-headed-spec : {M : Type 1} → statement M
-decode-headed-spec =
+pub decode-after-header-spec : {M : Type 1} → statement M
+decode-after-header-spec =
     tie.close
     (tie.spec
     is-inside-requires
