@@ -52,8 +52,8 @@ pub begin : (all : List ℕ) (p : Pen) (s : List ℕ) → isPen p ≡ true → B
 begin all p s e = let g = pen-good p e in record { good = g; long = refl; same = inked-is all p s g }
 
 module _ (all : List ℕ) (p₀ : Pen) (s₀ rest : List ℕ) (p : Pen) (s : List ℕ) (inv : BitsLeft all p₀ s₀ rest p s) where
-  pub out : length s ≤ p .byte → Writes all p₀ s₀ p s
-  out l = sym (inv .same ∙ ink-out rest p s l)
+  pub output-full : length s ≤ p .byte → Writes all p₀ s₀ p s
+  output-full l = sym (inv .same ∙ ink-out rest p s l)
 
   step : (bs cs : List ℕ) {q : Pen} {t : List ℕ} → Bits bs → rest ≡ bs ++ cs → _≡_ {A = State} (record { pen = q; bytes = t }) (ink bs p s)
       → BitsLeft all p₀ s₀ cs q t

@@ -9,7 +9,7 @@ use mathlib.Core.Path.{sym}
 use Rattle.reading.specs.Spelling.{bitsOf}
 use Rattle.reading.proofs.Bits.{one-shifted}
 use Rattle.output.proofs.Inking.{inked-none}
-use Rattle.output.proofs.Writing.{BitsLeft, begin, out, step-bits, end-bits}
+use Rattle.output.proofs.Writing.{BitsLeft, begin, output-full, step-bits, end-bits}
 use Rattle.output.proofs.write_bits.Statement.{statement}
 use Rattle.output.proofs.write_bits.Tie as tie
 
@@ -32,7 +32,7 @@ same-length : tie.Need-same-length Inv-loop μ-loop
 same-length c = search needs
 
 returns-2 : tie.Need-returns-2 Inv-loop μ-loop
-returns-2 c = out _ _ _ _ _ _ (c .before .before .loop .inv .1) (c .if2 .taken)
+returns-2 c = output-full _ _ _ _ _ _ (c .before .before .loop .inv .1) (c .if2 .taken)
 
 cast-lesser : tie.Need-cast-lesser Inv-loop μ-loop
 cast-lesser c = search needs

@@ -5,7 +5,7 @@ use native.Mathlib.Omega.{arith}
 use mathlib.Core.Path.{sym}
 use Rattle.reading.specs.Spelling.{unary}
 use Rattle.output.proofs.Inking.{inked-none}
-use Rattle.output.proofs.Writing.{BitsLeft, begin, out, step-zeros, end-zeros}
+use Rattle.output.proofs.Writing.{BitsLeft, begin, output-full, step-zeros, end-zeros}
 use Rattle.output.proofs.write_unary.Statement.{statement}
 use Rattle.output.proofs.write_unary.Tie as tie
 
@@ -28,7 +28,7 @@ same-length : tie.Need-same-length Inv-loop μ-loop
 same-length c = search needs
 
 returns-2 : tie.Need-returns-2 Inv-loop μ-loop
-returns-2 c = out _ _ _ _ _ _ (c .before .before .loop .inv) (c .if2 .taken)
+returns-2 c = output-full _ _ _ _ _ _ (c .before .before .loop .inv) (c .if2 .taken)
 
 write-bits-requires : tie.Need-write-bits-requires Inv-loop μ-loop
 write-bits-requires c κs = search needs
