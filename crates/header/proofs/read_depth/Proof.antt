@@ -8,7 +8,7 @@ use Rattle.reading.proofs.Running.{stays-in, bind-got, bind-short}
 use Rattle.input.proofs.Laws.{read-got, read-short, bit-is}
 use Rattle.rfc9639.specs.Header.{bitDepth, depthAndZero}
 use Rattle.demands.proofs.Frames.{depth-holds}
-use Rattle.header.specs.Private.{depthTree}
+use Rattle.header.specs.Private.{depthAsk}
 use Rattle.header.proofs.Stepping.{check-fails, check-done, known-done, known-stops}
 use Rattle.header.proofs.read_depth.Statement.{statement}
 use Rattle.header.proofs.read_depth.Tie as tie
@@ -46,7 +46,7 @@ code-is : (c : tie.After-read) → runAt (bits 3) (c .before .before .before .be
 code-is c = read-got 3 _ _ (search needs) (c .before .before .read-bits .ensures) (c .read .given .1)
 
 depth-is : (c : tie.After-depth) → done (c .depth .given .0 .0) ≡ bitDepth (c .before .before .before .before .read .given .0 .0)
-depth-is c = sym (ap depthTree (c .depth .given .1)) ∙ c .before .before .bit-depth .ensures
+depth-is c = sym (ap depthAsk (c .depth .given .1)) ∙ c .before .before .bit-depth .ensures
 
 returns-2 : tie.Need-returns-2
 unfolding depthAndZero
@@ -72,7 +72,7 @@ returns-4 c = sym (bind-got (bits 3) _ _ _ (code-is (c .before .before .before .
 
 returns-5 : tie.Need-returns-5
 unfolding depthAndZero
-returns-5 c = sym (bind-got (bits 3) _ _ _ (code-is (c .before .before .before .before .before)) ∙ known-stops _ _ _ _ (c .before .depth2 .given .0 .0) (depth-holds _) (stays-in (bits 3) _ _ (code-is (c .before .before .before .before .before))) (sym (ap depthTree (c .before .depth2 .given .1)) ∙ c .before .before .before .bit-depth .ensures))
+returns-5 c = sym (bind-got (bits 3) _ _ _ (code-is (c .before .before .before .before .before)) ∙ known-stops _ _ _ _ (c .before .depth2 .given .0 .0) (depth-holds _) (stays-in (bits 3) _ _ (code-is (c .before .before .before .before .before))) (sym (ap depthAsk (c .before .depth2 .given .1)) ∙ c .before .before .before .bit-depth .ensures))
 
 pub read-depth-spec : {M : Type 1} → statement M
 read-depth-spec =

@@ -8,8 +8,8 @@ use Rattle.reading.specs.Places.{gotAt, runAt}
 use Rattle.reading.proofs.Running.{runAt-out}
 use Rattle.input.proofs.Laws.{read-got, read-short}
 use Rattle.header.proofs.Coding.{Following, begin, end, cut, wrong, step, fits}
-use Rattle.header.proofs.coded.read_followers.Statement.{statement}
-use Rattle.header.proofs.coded.read_followers.Tie as tie
+use Rattle.header.proofs.coded_number.read_followers.Statement.{statement}
+use Rattle.header.proofs.coded_number.read_followers.Tie as tie
 
 abbrev Inv-loop : tie.InvT-loop
 Inv-loop s n v p₀ number₀ left₀ p number left = Following s n v p₀ left number p

@@ -6,8 +6,8 @@ use Rattle.reading.specs.Places.{gotAt, runAt}
 use Rattle.reading.proofs.Running.{stays-in, in-inside, bits-below, bind-got, bind-short}
 use Rattle.input.proofs.Laws.{read-got, read-short}
 use Rattle.rfc9639.specs.Number.{codedNumber}
-use Rattle.header.proofs.coded.read_number.Statement.{statement}
-use Rattle.header.proofs.coded.read_number.Tie as tie
+use Rattle.header.proofs.coded_number.read_number.Statement.{statement}
+use Rattle.header.proofs.coded_number.read_number.Tie as tie
 
 read-bits-requires : tie.Need-read-bits-requires
 read-bits-requires c κs = search needs
