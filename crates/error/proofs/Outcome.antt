@@ -1,4 +1,4 @@
--- Any two outcomes that meet a contract are equal; no two refusals have one number, and none has 0. Assumes nothing.
+-- Outcomes that meet a contract are equal; no two refusals have the same number, and none has 0. Assumes nothing.
 use Prim.Native.Nat.{ℕ, _-_, _≤_}
 use native.Mathlib.Omega.{arith}
 use mathlib.Core.Path.{_≡_, refl, ap, sym, _∙_}
@@ -43,7 +43,7 @@ names OutputRoom = refl
 pub number-tells : (r r′ : Refusal) → numberOf r ≡ numberOf r′ → r ≡ r′
 number-tells r r′ e = sym (names r) ∙ ap named e ∙ names r′
 
--- an accepted frame's number is 0, and no refusal's
+-- 0 is the number of an accepted frame, and of no refusal
 pub some-number : (e : Refusal) → 1 ≤ numberOf e
 some-number NothingLeft = omega arith
 some-number CutShort = omega arith

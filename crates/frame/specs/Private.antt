@@ -1,5 +1,5 @@
--- The refusal in a header's answer. Only the contract of a private function names it, so a reader of the promise need not
--- check it.
+-- The refusal in a header's answer. Only the contract of a private function names it, so a reader of the promise need
+-- not check it.
 use Rattle.error.specs.declared.Refusal.{Refusal}
 use Rattle.header.specs.declared.HeaderRead.{HeaderRead}
 

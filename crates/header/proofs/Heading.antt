@@ -1,5 +1,4 @@
--- The frame header piece by piece (RFC 9639 section 9.1): what the definition gets of the bytes, by what the code has read so
--- far; and what a header that was got says. Assumes nothing.
+-- The parts of a header (RFC 9639 section 9.1): what the definition gets for each, by its code. Assumes nothing.
 use Prim.Native.Nat.{ℕ, _+_, _*_, _%_, _^_, _≤_, _<_}
 use native.Mathlib.Nat.{mod-eq-of-lt}
 use native.Mathlib.Omega.{arith}
@@ -22,7 +21,7 @@ use Rattle.demands.proofs.Frames.{Early, Coded, codes-holds, Sound, header-hold
 use Rattle.header.proofs.Stepping.{check-fails, check-done}
 use Rattle.header.proofs.Moving.{moves-at, codes-whole}
 
--- ---- the number, judged
+-- ---- the coded number and its limit
 
 module _ (blocking : ℕ) (s : List ℕ) (at : Place) {number : ℕ} {q : Place} (e : runAt codedNumber s at ≡ gotAt number q) where
   judged : Bool

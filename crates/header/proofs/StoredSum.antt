@@ -1,4 +1,4 @@
--- A stored check sum, read at the start of a byte: what the definition makes of the bits that were read. Assumes nothing.
+-- A stored check sum at the start of a byte: what the definition makes of the bits that were read. Assumes nothing.
 use Prim.Native.Nat.{ℕ}
 use mathlib.Core.Path.{_≡_, ap, sym, _∙_}
 use mathlib.Core.List.{List}

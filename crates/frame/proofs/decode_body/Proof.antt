@@ -1,4 +1,4 @@
--- The channels, then the footer: where one stops, zeros; else the channels as they were recorded. Assumes nothing.
+-- The channels, then the footer: zeros if one is refused, else the channels as they were recorded. Assumes nothing.
 use mathlib.Core.Path.{_≡_, ap, _∙_}
 use mathlib.Core.List.{List}
 use borrow.Author.Needs.{needs}

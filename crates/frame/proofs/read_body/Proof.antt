@@ -1,4 +1,4 @@
--- The frame after its header, by the tests and the calls that were made (Answering). Assumes nothing.
+-- The frame after its header, by the tests and the calls that were made. Assumes nothing.
 use Prim.Native.Nat.{ℕ, _*_, _≤_}
 use native.Mathlib.Nat.{mul-le-mul}
 use native.Mathlib.Omega.{arith}
@@ -94,7 +94,7 @@ decode-body-requires c κs =
     let i = c .before .before .before .before in let k = i .before .before .before in
     (sound k .mono, sound k .bits, part-is k (i .if2 .left))
 
--- a body that was begun
+-- a body whose decoding has begun
 module _ (c : tie.After-decode-body) where
   abbrev told-bit : tie.After-enum-told
   told-bit = c .before .before

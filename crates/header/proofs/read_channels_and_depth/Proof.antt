@@ -1,4 +1,4 @@
--- The channels and the bits of a sample, as the definition reads them. Assumes nothing.
+-- The channels and the bit depth, as the definition reads them. Assumes nothing.
 use Prim.Native.Nat.{_≤_}
 use borrow.Author.Needs.{needs}
 use borrow.Author.Tests.{le-leb, lt-leb}
@@ -47,7 +47,7 @@ enum-known-depth c = search needs
 channel-assignment-requires : tie.Need-channel-assignment-requires
 channel-assignment-requires c κs = search needs
 
--- the bits behind it, which are few
+-- the bit depth after it, which is at most 24
 depth-is : (c : tie.After-depth) → runAt depthAndZero (c .before .before .before .before .before .before .before .before .before .args .s .now) (c .before .before .before .before .before .read .given .0 .1 .0) ≡ gotAt (c .depth .given .0 .0) (c .depth .given .0 .1 .0)
 depth-is c = sym (c .before .before .read-depth .ensures) ∙ ap numberAt (c .depth .given .1)
 

@@ -37,7 +37,7 @@ enum-known-second-2 c = search needs
 enum-known-first-2 : tie.Need-enum-known-first-2
 enum-known-first-2 c = search needs
 
--- the parts that were read
+-- the sync bits that were read
 sync-is : (c : tie.After-first) → runAt sync (c .before .before .before .before .args .s .now) (c .before .before .before .before .args .at) ≡ gotAt (c .first .given .0 .0) (c .first .given .0 .1 .0)
 sync-is c = answer-is numberAt (c .before .before .read-sync .ensures) (c .first .given .1)
 

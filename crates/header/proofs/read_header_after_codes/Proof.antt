@@ -65,7 +65,7 @@ module _ (c : tie.After-block) where
   size-byte : c .block .given .0 .1 .0 .bit ≡ 0
   size-byte = moves-at _ _ _ (size-whole _) (time-byte timed) size-is
 
--- the rate's bits are counted by the code
+-- the code says how many bits the rate has
 counted : (c : tie.After-rate-bits) → c .rate-bits .result ≤ 64
 counted c = omega (arith, c .rate-bits .ensures, rate-few (begun (c .before .before) .args .c .rate))
 

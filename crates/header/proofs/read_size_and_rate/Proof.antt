@@ -47,7 +47,7 @@ returns-3 : tie.Need-returns-3
 unfolding sizeAndRate
 returns-3 c = sym (check-holds (bits 4) _ _ (ltb 0) 4 (size-is (c .before .before .before .before .before)) _ (lt-ltb 0 (c .before .before .before .before .before .first .given .0 .0) (omega arith)) ∙ bind-short (bits 4) _ _ _ (read-short 4 _ _ (search needs) (c .before .before .read-bits2 .ensures) (c .enum-told2 .given .1)))
 
--- the rate's, behind it
+-- the rate's code, after it
 rate-is : (c : tie.After-second) → runAt (bits 4) (c .before .before .before .before .before .before .before .before .before .args .s .now) (c .before .before .before .before .before .first .given .0 .1 .0) ≡ gotAt (c .second .given .0 .0) (c .second .given .0 .1 .0)
 rate-is c = read-got 4 _ _ (search needs) (c .before .before .read-bits2 .ensures) (c .second .given .1)
 

@@ -1,4 +1,4 @@
--- The number, judged as the definition does. Assumes nothing.
+-- The coded number, and the limit of a frame's number, as in the definition. Assumes nothing.
 use borrow.Author.Needs.{needs}
 use native.Mathlib.Omega.{arith}
 use mathlib.Core.Path.{_≡_, sym, ap, _∙_}

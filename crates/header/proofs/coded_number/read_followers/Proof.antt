@@ -1,4 +1,4 @@
--- The bytes behind the first, as the definition reads them. The loop keeps what is still to be got; the bytes to come count down. Assumes nothing.
+-- The bytes after the first, as the definition reads them; the loop counts down those to come. Assumes nothing.
 use borrow.Author.Needs.{needs}
 use borrow.Author.Tests.{not-true, not-false}
 use native.Mathlib.Omega.{arith}

@@ -1,4 +1,4 @@
--- The coded number: its first byte, then what that says. Assumes nothing.
+-- The coded number: its first byte, then the bytes that it announces. Assumes nothing.
 use borrow.Author.Needs.{needs}
 use mathlib.Core.Path.{_≡_, sym, _∙_}
 use Rattle.reading.specs.Reading.{bits}

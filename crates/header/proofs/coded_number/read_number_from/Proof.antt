@@ -1,4 +1,4 @@
--- What a first byte says, test by test as in the definition. Assumes nothing.
+-- The number by its first byte, test by test as in the definition. Assumes nothing.
 use borrow.Author.Needs.{needs}
 use borrow.Author.Tests.{lt-ltb, le-ltb}
 use mathlib.Core.Path.{sym}
