@@ -1,4 +1,4 @@
--- The whole frame: nothing left, no header, or what follows the header. Assumes nothing.
+-- The whole frame: an empty input, no header, or a header and what follows it. Assumes nothing.
 use mathlib.Core.Path.{ap, sym, _∙_}
 use borrow.Author.Needs.{needs}
 use Rattle.header.specs.Answers.{headed}
