@@ -1,5 +1,5 @@
--- Any two outcomes that meet a contract are equal; no two refusals have one number, and none has 0. Assumes nothing.
-use Prim.Native.Nat.{ℕ, _-_, _≤_}
+-- Outcomes that meet a contract are equal; no two refusals have the same number, and none has 0. Assumes nothing.
+use Prim.Native.Nat.{ℕ, zero, suc, _-_, _≤_}
 use native.Mathlib.Omega.{arith}
 use mathlib.Core.Path.{_≡_, refl, ap, sym, _∙_}
 use mathlib.Core.List.{List, [], _∷_}
@@ -43,18 +43,11 @@ names OutputRoom = refl
 pub number-tells : (r r′ : Refusal) → numberOf r ≡ numberOf r′ → r ≡ r′
 number-tells r r′ e = sym (names r) ∙ ap named e ∙ names r′
 
--- an accepted frame's number is 0, and no refusal's
+-- 0 is the number of an accepted frame, and of no refusal
 pub some-number : (e : Refusal) → 1 ≤ numberOf e
-some-number NothingLeft = omega arith
-some-number CutShort = omega arith
-some-number NotSync = omega arith
-some-number Reserved = omega arith
-some-number BadNumber = omega arith
-some-number HeaderSum = omega arith
-some-number NoRoom = omega arith
-some-number NotDone = omega arith
-some-number BadShape = omega arith
-some-number FrameSum = omega arith
-some-number BadArgument = omega arith
-some-number SampleRange = omega arith
-some-number OutputRoom = omega arith
+unfolding named every
+some-number e = go (numberOf e) refl
+  where
+    go : (n : ℕ) → numberOf e ≡ n → 1 ≤ n
+    go zero f = let d : NothingLeft ≡ e = ap named (sym f) ∙ names e in omega (arith, ap numberOf d)
+    go (suc n) f = omega arith

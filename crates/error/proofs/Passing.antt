@@ -1,4 +1,4 @@
--- A refusal in the definition's words: it is passed on, no two are the same, and none is a value. Assumes nothing.
+-- Refusals in the definition's words: passed on, no two the same, and none a value. Assumes nothing.
 use Prim.Native.Nat.{ℕ}
 use native.Mathlib.Omega.{arith}
 use mathlib.Core.Path.{_≡_, refl, ap, sym, _∙_}
@@ -14,7 +14,7 @@ use Rattle.error.specs.declared.Refusal.{Refusal}
 use Rattle.error.specs.Numbers.{numberOf, refusedBy}
 use Rattle.error.proofs.Outcome.{number-tells}
 
--- a reader behind one that was refused, or cut short, is too
+-- a reader whose first part is refused, or cut short, is too
 pub bind-refusal : {A B : Type 0} (p : Ask A) (s : List ℕ) (at : Place) (k : A → Ask B) (e : Refusal) → runAt p s at ≡ refusedBy e → runAt (p >>= k) s at ≡ refusedBy e
 bind-refusal {A} {B} p s at k e = go (eqb (numberOf e) 2)
   where
@@ -22,22 +22,22 @@ bind-refusal {A} {B} p s at k e = go (eqb (numberOf e) 2)
     go true h = bind-short p s at k h
     go false h = bind-refused p s at k h
 
--- the number in a refusal
-numberAt : {A : Type 0} → At A → ℕ
-numberAt (gotAt a p) = 0
-numberAt (refusedAt n) = n
-numberAt shortAt = 2
+-- the number that a refusal carries
+refusalNumber : {A : Type 0} → At A → ℕ
+refusalNumber (gotAt a p) = 0
+refusalNumber (refusedAt n) = n
+refusalNumber shortAt = 2
 
-number-at : (A : Type 0) (e : Refusal) → numberAt {A = A} (refusedBy e) ≡ numberOf e
-unfolding numberAt
+number-at : (A : Type 0) (e : Refusal) → refusalNumber {A = A} (refusedBy e) ≡ numberOf e
+unfolding refusalNumber
 number-at A e = go (eqb (numberOf e) 2) refl
   where
-    go : (b : Bool) → eqb (numberOf e) 2 ≡ b → numberAt {A = A} (cond b shortAt (refusedAt (numberOf e))) ≡ numberOf e
+    go : (b : Bool) → eqb (numberOf e) 2 ≡ b → refusalNumber {A = A} (cond b shortAt (refusedAt (numberOf e))) ≡ numberOf e
     go true t = sym (eqb-true (numberOf e) 2 t)
     go false t = refl
 
 pub refused-one : {A : Type 0} (e e′ : Refusal) → _≡_ {A = At A} (refusedBy e) (refusedBy e′) → e ≡ e′
-refused-one {A} e e′ h = number-tells e e′ (sym (number-at A e) ∙ ap numberAt h ∙ number-at A e′)
+refused-one {A} e e′ h = number-tells e e′ (sym (number-at A e) ∙ ap refusalNumber h ∙ number-at A e′)
 
 pub got-not-refused : {A : Type 0} (a : A) (p : Place) (e : Refusal) → gotAt a p ≡ refusedBy e → ⊥
 got-not-refused {A} a p e = go (eqb (numberOf e) 2)

@@ -1,6 +1,6 @@
--- What a refusal asks of the caller: 1 and 2 wait for bytes, 7 wants room, and every other stays as it is. Two theorems
--- make this more than a name: no bytes change an answer that does not wait, and no room one that does not want room (crate
--- `promises`).
+-- What a refusal asks of the caller: 1 and 2 wait for bytes, 7 wants room, and the others are final. Two theorems of
+-- the crate `promises` back this: more bytes do not change an answer that does not wait, and more room does not change
+-- one that does not want room.
 use Rattle.error.specs.declared.Refusal.{Refusal}
 use Rattle.error.specs.declared.Refusal.the-variants.{NothingLeft, CutShort, NotSync, Reserved, BadNumber, HeaderSum, NoRoom, NotDone, BadShape, FrameSum, BadArgument, SampleRange, OutputRoom}
 use Rattle.error.specs.declared.Need.{Need}

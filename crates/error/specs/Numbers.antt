@@ -21,6 +21,6 @@ numberOf BadArgument = 11
 numberOf SampleRange = 12
 numberOf OutputRoom = 13
 
--- A refusal in the definition's words: it has none for an input that is cut short.
+-- A refusal in the definition's words, which have no number for an input that is cut short.
 abbrev pub refusedBy : {A : Type 0} → Refusal → At A
 refusedBy e = if eqb (numberOf e) 2 then shortAt else refusedAt (numberOf e)

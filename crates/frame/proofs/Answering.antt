@@ -1,5 +1,4 @@
--- From the definition's answer by cases (Cases of the demands) to what the reader answers and leaves in the lent samples.
--- Assumes nothing.
+-- Answers by cases: from the definition's result to what the reader answers and leaves in the samples. Assumes nothing.
 use Prim.Native.Nat.{ℕ, _≤_, _<_}
 use native.Mathlib.Omega.{arith}
 use mathlib.Core.Path.{_≡_, refl, ap, ap₂, sym, _∙_, subst}
@@ -88,7 +87,7 @@ module _ (s : List ℕ) (b : List ℤ) where
       go true f h = kept e (cases.header-short set s h ∙ ap untouched (cut-some s some ∙ sym (eqb-true (numberOf e) 2 f)))
       go false f h = kept e (cases.header-refused set s (numberOf e) h)
 
-  -- ---- behind a header
+  -- ---- after a header
 
   module _ {h : FrameHeader} {p : Place} (e : runAt header s (placeOf 0) ≡ gotAt h p) where
     some-bytes : length s ≡ 0 → ⊥
@@ -108,7 +107,7 @@ module _ (s : List ℕ) (b : List ℤ) where
         pub no-first-bit : runAt (bits 1) s p ≡ shortAt → Reads (read s b) (Answer.Refused CutShort) b
         no-first-bit f = kept CutShort (cases.no-first-bit set s e some-bits fits f ∙ ap untouched (cut-some s some-bytes))
 
-        -- what the decoder of the body left stands in front
+        -- what the decoder of the body left is the front of the buffer
         module _ {v : ℕ} {q : Place} (f : runAt (bits 1) s p ≡ gotAt v q) {r : Decoded} {front left : List ℤ} (told : Left (runAt (body h) s p) (sampleCount h) r front)
             (stands : left ≡ front ++ drop (sampleCount h) b) where
           pub body-read : {end : Place} → r ≡ Done end → length front ≡ sampleCount h → {first channels : ℕ} → first ≡ firstSample h → channels ≡ channelCount (h .channels)

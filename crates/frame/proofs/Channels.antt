@@ -1,5 +1,4 @@
--- The channels of a block one behind the other: how wide each is, and a loop that reads each into its part of the lent slice.
--- Then the footer, and the channels as they were recorded. Assumes nothing.
+-- The body of a frame: the width of each channel, the loop that reads them, and the footer. Assumes nothing.
 use Prim.Native.Nat.{ℕ, zero, suc, _+_, _-_, _*_, _≤_, _<_}
 use native.Mathlib.Nat.{suc-mul, sub-zero}
 use native.Mathlib.Numerals.{add-one}
@@ -53,48 +52,16 @@ widths-length LeftSide b = refl
 widths-length SideRight b = refl
 widths-length MidSide b = refl
 
--- the second of two is one bit wider, or the first
-up : (b i : ℕ) → i < 2 → b + i ≡ getD (b ∷ (b + 1) ∷ []) i 0
+-- of two channels the second is one bit wider, or the first
+pub up : (b i : ℕ) → i < 2 → b + i ≡ getD (b ∷ (b + 1) ∷ []) i 0
 up b zero h = omega arith
 up b (suc zero) h = refl
 up b (suc (suc i)) h = absurd (omega arith)
 
-down : (b i : ℕ) → i < 2 → b + 1 - i ≡ getD ((b + 1) ∷ b ∷ []) i 0
+pub down : (b i : ℕ) → i < 2 → b + 1 - i ≡ getD ((b + 1) ∷ b ∷ []) i 0
 down b zero h = omega arith
 down b (suc zero) h = omega arith
 down b (suc (suc i)) h = absurd (omega arith)
-
-module _ (c : ChannelAssignment) (b i : ℕ) (h : i < channelCount c) where
-  pub width-same : {n : ℕ} → c ≡ Independent n → b ≡ getD (widths c b) i 0
-  unfolding widths channelCount
-  width-same {n} e = sym (ap (λ a. getD (widths a b) i 0) e ∙ getD-replicate n i b 0 (rw e at h))
-
-  module _ (e : c ≡ LeftSide) where
-    pub pair-left : i < 2
-    unfolding channelCount
-    pair-left = rw e at h
-
-    pub width-left : b + i ≡ getD (widths c b) i 0
-    unfolding widths
-    width-left = rw e (up b i pair-left)
-
-  module _ (e : c ≡ SideRight) where
-    pub pair-right : i < 2
-    unfolding channelCount
-    pair-right = rw e at h
-
-    pub width-right : b + 1 - i ≡ getD (widths c b) i 0
-    unfolding widths
-    width-right = rw e (down b i pair-right)
-
-  module _ (e : c ≡ MidSide) where
-    pub pair-mid : i < 2
-    unfolding channelCount
-    pair-mid = rw e at h
-
-    pub width-mid : b + i ≡ getD (widths c b) i 0
-    unfolding widths
-    width-mid = rw e (up b i pair-mid)
 
 -- no channel is wider than 32 bits
 pub width-few : (c : ChannelAssignment) (b i : ℕ) → b ≤ 24 → i < channelCount c → getD (widths c b) i 0 ≤ 32
@@ -104,8 +71,8 @@ width-few LeftSide b i h l = omega (arith, up b i l)
 width-few SideRight b i h l = omega (arith, down b i l)
 width-few MidSide b i h l = omega (arith, up b i l)
 
--- ---- a loop over parts of n samples, one for each width: i of them are read, up to `start`. The first may start outside the
--- input, and is refused then.
+-- ---- a loop over parts of n samples, one for each width: i of them are read, up to `start`. The first may start
+-- outside the input, and is then refused.
 
 pub record Dividing (n : ℕ) (ws : List ℕ) (s : List ℕ) (at₀ : Place) (l₀ l : List ℤ) (start i : ℕ) (at : Place) : Type 0 where
   pub place : 1 ≤ i → In s at
@@ -132,11 +99,11 @@ module _ {n : ℕ} {ws : List ℕ} {s : List ℕ} {at₀ : Place} {l₀ l : List
     next : runAt (each (subframe n) ws) s at₀ ≡ behind (take start l) (runAt (each (subframe n) (getD ws i 0 ∷ drop (suc i) ws)) s at)
     next = inv .same ∙ ap (λ t. behind (take start l) (runAt (each (subframe n) t) s at)) (drop-cons ws i 0 h)
 
-    -- with the part back the slice is as long as it came
+    -- with the part put back, the slice has its old length
     pub part-back : (v : List ℤ) → length v ≡ length (midOf start part l) → length (putMid start part l v) ≡ length l₀
     part-back v kept = same-len-mid start part l v kept ∙ inv .long
 
-    -- by what the decoder of the part answered and left
+    -- by what the decoder of the part answered and left in it
     module _ {width : ℕ} (is : width ≡ getD ws i 0) (few : getD ws i 0 ≤ 32) (r : Decoded) (v : List ℤ) (told : means r v ≡ decodeAt width (length (midOf start part l)) s at) where
       ran : means r v ≡ runAt (subframe n (getD ws i 0)) s at
       ran =
@@ -173,7 +140,7 @@ module _ {n : ℕ} {ws : List ℕ} {s : List ℕ} {at₀ : Place} {l₀ l : List
       (inv .same ∙ ap (λ t. behind (take start l) (runAt (each (subframe n) t) s at)) (ap (λ m. drop m ws) all ∙ drop-length ws)
       ∙ each-end (subframe n) s (take start l) at (inv .place (omega arith)) ∙ ap (λ t. gotAt t at) (take-all start l (omega (arith, inv .sized, none))))
 
--- ---- behind the channels
+-- ---- the rest of the body
 
 module _ (h : FrameHeader) (s : List ℕ) (at : Place) where
   abbrev coded : Ask (List ℤ)

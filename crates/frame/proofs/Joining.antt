@@ -1,5 +1,4 @@
--- Two channels that are joined in place, a pair of samples a turn: for every two functions that make left and right of a pair.
--- And the low bit of a number by a shift. Assumes nothing.
+-- Stereo pairs: two channels joined in place, a pair of samples a turn, and the functions of a pair. Assumes nothing.
 use Prim.Native.Nat.{ℕ, zero, suc, _+_, _-_, _*_, _/_, _^_, _≤_, _<_}
 use native.Mathlib.Numerals.{add-one}
 use native.Mathlib.Omega.{arith}
@@ -20,7 +19,7 @@ use Rattle.rfc9639.proofs.Listing.{pairwise-first, pairwise-second}
 use Rattle.rfc9639.proofs.Machine.{widened}
 use Rattle.number.proofs.Sizes.{sfits-of-abs, abs-of-fits, abs-mul, add-fits}
 
--- ---- pairs of which one is kept
+-- ---- pairs of which one sample is kept
 
 abbrev pub first : ℤ → ℤ → ℤ
 first x y = x
@@ -28,7 +27,7 @@ first x y = x
 abbrev pub second : ℤ → ℤ → ℤ
 second x y = y
 
--- ---- one side: of ks the first i are done, and the others are to be made of xs and ys
+-- ---- one side: the first i of ks are done, and the others are still to be made from xs and ys
 
 unfoldable pub side : (ℤ → ℤ → ℤ) → List ℤ → List ℤ → List ℤ → ℕ → List ℤ
 side f xs ys ks i = take i ks ++ pairwise f (drop i xs) (drop i ys)
@@ -50,7 +49,7 @@ module _ (f : ℤ → ℤ → ℤ) (xs ys ks : List ℤ) (i : ℕ) where
   side-end e h =
       ap₂ (λ (u v : List ℤ). u ++ pairwise f v (drop i ys)) (take-all i ks h) (ap (λ n. drop n xs) (sym e) ∙ drop-length xs) ∙ append-nil ks
 
--- ---- both sides: a slice of two channels held l₀ and holds l, and i pairs are joined
+-- ---- both sides: a slice of two channels held l₀ and now holds l, with i pairs joined
 
 pub record Joining (f g : ℤ → ℤ → ℤ) (n : ℕ) (l₀ l : List ℤ) (i : ℕ) : Type 0 where
   pub within : i ≤ n
@@ -69,7 +68,7 @@ module _ (n : ℕ) (l : List ℤ) (h : length l ≡ 2 * n) where
   right-long : length (drop n l) ≡ n
   right-long = length-drop n l ∙ omega arith
 
-  -- the definition's words for each
+  -- in the definition's words
   pub joined-left : pairwise first (take n l) (drop n l) ++ pairwise rightOf (take n l) (drop n l) ≡ joined LeftSide n l
   unfolding joined
   joined-left = ap (λ (u : List ℤ). u ++ pairwise rightOf (take n l) (drop n l)) (pairwise-first (take n l) (drop n l) (omega (arith, left-long, right-long)))
@@ -124,7 +123,7 @@ module _ {f g : ℤ → ℤ → ℤ} {n : ℕ} {l₀ l : List ℤ} {i : ℕ} (in
             side-step e (take n l) (drop n l) ks i a b c (omega (arith, left-long n l (inv .long))) (omega (arith, right-long n l (inv .long)))
             (omega (arith, k)) (r ∙ ap₂ e (sym (getD-take n l i (pos 0) h)) (sym (getD-drop n l i (pos 0))))
 
--- ---- a turn as the functions have it: a signed value is handed on by its bits
+-- ---- a turn of the loops, in machine integers: a signed value is passed on as its bits
 
 abbrev pub bits32 : ℤ → ℤ
 bits32 z = toZ w32 (ofZ w32 z)
@@ -140,7 +139,7 @@ module _ {f g : ℤ → ℤ → ℤ} {n : ℕ} {l₀ l : List ℤ} {i : ℕ} (in
       → SFits w32 b → b ≡ g (bits32 (getD l i (pos 0))) (bits32 (getD l (n + i) (pos 0))) → Joining f g n l₀ (set (set l i (bits32 a)) (n + i) (bits32 b)) (i + 1)
   step-both a b fa p fb q = step inv h (bits32 a) (bits32 b) (kept f a fa p) (kept g b fb q)
 
--- a turn that leaves the left, or the right
+-- a turn that keeps the left sample, or the right
 module _ {e : ℤ → ℤ → ℤ} {n : ℕ} {l₀ l : List ℤ} {i : ℕ} where
   pub step-right : Joining first e n l₀ l i → i < n → SFits w32 (getD l i (pos 0)) → SFits w32 (getD l (n + i) (pos 0))
       → (b : ℤ) → SFits w32 b → b ≡ e (bits32 (getD l i (pos 0))) (bits32 (getD l (n + i) (pos 0))) → Joining first e n l₀ (set l (n + i) (bits32 b)) (i + 1)
@@ -152,7 +151,7 @@ module _ {e : ℤ → ℤ → ℤ} {n : ℕ} {l₀ l : List ℤ} {i : ℕ} where
       rw set-getD at
       (step inv h (bits32 a) (getD (set l i (bits32 a)) (n + i) (pos 0)) (kept inv h fx fy e a fa p) (getD-set-other l i (n + i) (bits32 a) (pos 0) (λ d. omega arith)))
 
--- ---- the low bit of a number is what halving and doubling lose
+-- ---- the low bit of a number is what halving and doubling it loses
 
 pos-sub : (a b : ℕ) → b ≤ a → pos a -ℤ pos b ≡ pos (a - b)
 pos-sub a zero h = ap pos (omega arith)
@@ -177,7 +176,7 @@ pub doubled-fits : {mid : ℤ} → SFits w32 mid → (side : ℤ) → SFits w64 
 doubled-fits {mid} f side =
     add-fits (mid *ℤ pos 2) (pos (low 1 side)) (omega (arith, abs-mul mid (pos 2), abs-of-fits (of-sfits f))) (omega (arith, low-lt 1 side))
 
--- half of a sum that fits: the last 32 bits are all of it
+-- half of a sum that fits 32 bits fits them too: keeping 32 bits keeps all of it
 pub half-of : (op : ℤ → ℤ → ℤ) {mid side twice sum down r : ℤ} → SFits w32 mid → SFits w32 side → SFits w32 twice → SFits w32 sum → SFits w64 down → SFits w32 r
     → twice ≡ doubled (bits32 mid) (bits32 side) → sum ≡ wrapped 32 (op (bits32 twice) (bits32 side)) → down ≡ shiftDown 1 (bits64 (bits32 sum)) → r ≡ wrapped 32 (bits64 down)
     → bits32 r ≡ shiftDown 1 (wrapped 32 (op (doubled mid side) side))

@@ -1,5 +1,4 @@
--- Any two outcomes that meet a contract are equal: the report tells the answer, and the buffer is the definition's.
--- Assumes nothing.
+-- Any two outcomes that meet the contract are equal: the report fixes the answer. Assumes nothing.
 use native.Mathlib.Omega.{arith}
 use mathlib.Core.Path.{_≡_, ap}
 use Rattle.reading.proofs.Outcome.{OneOutcome, one}
@@ -10,7 +9,7 @@ use Rattle.frame.specs.declared.Answer.{Answer}
 use Rattle.frame.specs.Reads.{reportOf}
 use Rattle.frame.proofs.read_frame
 
--- what a report says of a frame
+-- the frame that a report describes
 reported : Report → Accepted
 reported r = record { consumed = r .consumed; first = r .first; channels = r .channels; bits = r .bits; size = r .size }
 

@@ -1,5 +1,4 @@
--- Laws for callers of `read_frame`: the buffer keeps its length, an accepted frame's bytes are there, and its samples are
--- in the buffer. Assumes nothing.
+-- Callers of `read_frame`: the buffer keeps its length; a frame's bytes and samples are there. Assumes nothing.
 use Prim.Native.Nat.{ℕ, _*_, _≤_}
 use native.Mathlib.Omega.{arith}
 use mathlib.Core.Path.{_≡_, ap, sym, _∙_, subst}

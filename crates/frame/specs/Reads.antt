@@ -1,4 +1,4 @@
--- The reader's answer in document 01's numbers and values, and what it has to be.
+-- The reader's answer as a report of document 01, and what it has to be.
 use mathlib.Core.Path.{_≡_}
 use mathlib.Core.List.{List}
 use lib.IntN.{ℤ}

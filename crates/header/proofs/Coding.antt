@@ -1,4 +1,4 @@
--- The coded number, byte by byte (RFC 9639 section 9.1.5): what the loop over the bytes behind the first keeps. Assumes nothing.
+-- The coded number (RFC 9639 section 9.1.5): what the loop over the bytes after the first keeps. Assumes nothing.
 use Prim.Native.Nat.{ℕ, suc, _+_, _*_, _-_, _/_, _%_, _^_, _≤_, _<_}
 use native.Mathlib.Nat.{lt-of-lt-of-le}
 use native.Mathlib.Omega.{arith}
@@ -15,8 +15,8 @@ use Rattle.reading.proofs.Running.{In, inside-in, stays-in, runAt-done, bind-sh
 use Rattle.rfc9639.specs.Number.{followed}
 use Rattle.header.proofs.Stepping.{check-fails, check-holds}
 
--- With `left` of n bytes to come, and `number` made of v and those before: the same is still to be got. A number has 7 bits
--- before the first and 6 more with each.
+-- With `left` of n bytes to come, and `number` made of v and the bytes before: the run from here gives the same. A
+-- number has 7 bits before the first of these bytes, and 6 more with each.
 pub record Following (s : List ℕ) (n v : ℕ) (at : Place) (left number : ℕ) (p : Place) : Type 0 where
   pub place : In s p
   pub few : left ≤ 6

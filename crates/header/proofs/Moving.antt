@@ -1,5 +1,4 @@
--- How far a reader goes in a byte, whatever the input: from the bit i of a byte to the bit j of one. The header up to its
--- check sum is whole bytes (RFC 9639 section 9.1), which is read off its trees. Assumes nothing.
+-- Byte alignment: a reader goes from bit i of a byte to bit j of one; header parts are whole bytes. Assumes nothing.
 use Prim.Native.Nat.{ℕ, zero, suc, _+_, _%_}
 use native.Mathlib.Omega.{arith}
 use mathlib.Core.Path.{_≡_, refl, ap, sym, _∙_}
@@ -14,13 +13,13 @@ use Rattle.rfc9639.specs.Number.{followed, numberFrom, codedNumber}
 use Rattle.rfc9639.specs.HeaderCodes.{bitDepth, blockSize, rateBits}
 use Rattle.rfc9639.specs.Header.{sync, sizeAndRate, depthAndZero, channelsAndBits, codes, blockTime}
 
--- Zeros have no length that the tree tells, and what was passed is not asked for here.
+-- No case for zeros, whose length depends on the input, or for `passed`, which no part before the check sum asks.
 pub data Moves {A : Type 0} : ℕ → ℕ → Ask A → Type 0 where
   ends : {i : ℕ} {a : A} → Moves i i (done a)
   stops : {i j n : ℕ} → Moves i j (stop n)
   asks : {i j n : ℕ} {k : ℕ → Ask A} → ((v : ℕ) → Moves ((i + n) % 8) j (k v)) → Moves i j (ask (nextBits n) k)
 
--- ---- how it is shown
+-- ---- how a move is shown
 
 module _ {A B : Type 0} {j l : ℕ} (k : A → Ask B) where
   pub moves-bind : {i : ℕ} {p : Ask A} → Moves i j p → ((a : A) → Moves j l (k a)) → Moves i l (p >>= k)
@@ -42,9 +41,9 @@ pub moves-if : {A : Type 0} {i j : ℕ} (b : Bool) {p q : Ask A} → Moves i j p
 moves-if true h g = h
 moves-if false h g = g
 
--- ---- what it says of runs
+-- ---- what a move says of a run
 
--- what was got was read at a place of the input
+-- what was got was read from a place inside the input
 starts-in : {A : Type 0} (p : Ask A) (s : List ℕ) (at : Place) {a : A} {q : Place} → runAt p s at ≡ gotAt a q → In s at
 starts-in p s at {a} {q} e = go (inside s at) refl
   where
@@ -66,7 +65,7 @@ module _ {A : Type 0} (s : List ℕ) {a : A} {q : Place} {j : ℕ} where
   pub moves-at : {i : ℕ} (p : Ask A) (at : Place) → Moves i j p → at .bit ≡ i → runAt p s at ≡ gotAt a q → q .bit ≡ j
   moves-at p at m f e = moved m at (starts-in p s at e) f e
 
--- ---- the pieces of a header
+-- ---- the parts of a header
 
 followed-whole : (n v : ℕ) → Moves 0 0 (followed n v)
 unfolding followed

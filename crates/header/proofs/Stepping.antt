@@ -1,4 +1,4 @@
--- A reader in its steps: what it gets, or why it stops, by what its first part got, or by why that stopped. Assumes nothing.
+-- The steps of a reader: what it gets, or why it stops, by what its first part did. Assumes nothing.
 use Prim.Native.Nat.{ℕ}
 use native.Mathlib.Omega.{arith}
 use mathlib.Core.Path.{_≡_, ap, sym, _∙_, subst}
@@ -14,27 +14,16 @@ use Rattle.error.specs.declared.Refusal.{Refusal}
 use Rattle.error.specs.Numbers.{numberOf, refusedBy}
 use Rattle.demands.proofs.Frames.{Early}
 
--- An answer that is a refusal says why the reader stopped; the function that asked for the refusal has the same.
-pub passed-on : {R A : Type 0} (means : R → At A) (why : R → Refusal) {r r′ : R} {x : At A} {k : Refusal}
-    → means r ≡ x → r ≡ r′ → means r′ ≡ refusedBy (why r′) → k ≡ why r → x ≡ refusedBy k
-passed-on means why e f g h = sym e ∙ ap means f ∙ g ∙ ap refusedBy (sym (h ∙ ap why f))
-
--- a check by itself
-module _ {b : Bool} (n : ℕ) {s : List ℕ} {at : Place} (h : In s at) where
-  pub check-passes : b ≡ true → runAt (require b n) s at ≡ gotAt tt at
-  unfolding require
-  check-passes e = rw e (runAt-done tt h)
-
-  pub check-stops : b ≡ false → runAt (require b n) s at ≡ refusedAt n
-  unfolding require
-  check-stops e = rw e (runAt-stop n h)
+-- what a part of the definition gives, by the answer of a call that a match has named
+pub answer-is : {R A : Type 0} (means : R → At A) {r r′ : R} {x : At A} → means r ≡ x → r ≡ r′ → x ≡ means r′
+answer-is means e f = sym e ∙ ap means f
 
 module _ {A B : Type 0} (p : Ask A) (s : List ℕ) (at : Place) where
-  -- what was got, made into something else
+  -- what was got, then a function of it
   pub then-done : (f : A → B) {a : A} {q : Place} → runAt p s at ≡ gotAt a q → runAt (p >>= (λ x. done (f x))) s at ≡ gotAt (f a) q
   then-done f {a} e = bind-got p s at (λ x. done (f x)) e ∙ runAt-done (f a) (stays-in p s at e)
 
-  -- what was got, checked
+  -- what was got, then a check of it
   module _ (b : A → Bool) (n : ℕ) {a : A} {q : Place} (e : runAt p s at ≡ gotAt a q) where
     pub check-fails : (k : A → Ask B) → b a ≡ false → runAt (p >>= (λ x. require (b x) n >> k x)) s at ≡ refusedAt n
     check-fails k f = bind-got p s at (λ x. require (b x) n >> k x) e ∙ require-fails n (λ _. k a) (stays-in p s at e) f
@@ -45,7 +34,7 @@ module _ {A B : Type 0} (p : Ask A) (s : List ℕ) (at : Place) where
     pub check-done : (f : A → B) → b a ≡ true → runAt (p >>= (λ x. require (b x) n >> done (f x))) s at ≡ gotAt (f a) q
     check-done f g = check-holds (λ x. done (f x)) g ∙ runAt-done (f a) (stays-in p s at e)
 
--- a part that asks nothing, known by what a function made of it
+-- a part that reads nothing, known by what a function computed
 module _ {A B : Type 0} (t : Ask A) (k : A → Ask B) (s : List ℕ) (at : Place) where
   pub known-done : {a : A} → done a ≡ t → runAt (t >>= k) s at ≡ runAt (k a) s at
   unfolding _>>=_

@@ -1,65 +1,33 @@
--- What the answers of the header's private functions mean, in the words of the definition: only contracts of private
--- functions name it, so nobody has to believe it.
+-- What the answers of the header's private functions mean, in the words of the definition. Only contracts of private
+-- functions name these, so a reader of the promise need not check them.
 use Prim.Native.Nat.{ℕ}
 use Rattle.reading.specs.Places.{At, gotAt}
-use Rattle.error.specs.declared.Refusal.{Refusal}
 use Rattle.error.specs.Numbers.{refusedBy}
 use Rattle.rfc9639.specs.declared.BlockTime.{BlockTime}
 use Rattle.rfc9639.specs.declared.ChannelAssignment.{ChannelAssignment}
 use Rattle.rfc9639.specs.declared.Codes.{Codes}
-use Rattle.header.specs.declared.answers.Field.{Field}
-use Rattle.header.specs.declared.answers.Third.{Third}
-use Rattle.header.specs.declared.answers.Fourth.{Fourth}
+use Rattle.header.specs.declared.answers.NumberRead.{NumberRead}
+use Rattle.header.specs.declared.answers.SizeAndRate.{SizeAndRate}
+use Rattle.header.specs.declared.answers.ChannelsAndDepth.{ChannelsAndDepth}
 use Rattle.header.specs.declared.answers.CodesRead.{CodesRead}
-use Rattle.header.specs.declared.answers.Time.{Time}
-use Rattle.header.specs.declared.answers.Checked.{Checked}
+use Rattle.header.specs.declared.answers.TimeRead.{TimeRead}
 
-abbrev pub fielded : Field → At ℕ
-fielded (Field.Value v p) = gotAt v p
-fielded (Field.Refused e) = refusedBy e
+abbrev pub numberAt : NumberRead → At ℕ
+numberAt (NumberRead.Value v p) = gotAt v p
+numberAt (NumberRead.Refused e) = refusedBy e
 
-abbrev pub thirdly : Third → At (ℕ × ℕ)
-thirdly (Third.Codes size rate p) = gotAt (size, rate) p
-thirdly (Third.Refused e) = refusedBy e
+abbrev pub sizeAndRateAt : SizeAndRate → At (ℕ × ℕ)
+sizeAndRateAt (SizeAndRate.Codes size rate p) = gotAt (size, rate) p
+sizeAndRateAt (SizeAndRate.Refused e) = refusedBy e
 
-abbrev pub fourthly : Fourth → At (ChannelAssignment × ℕ)
-fourthly (Fourth.Channels c n p) = gotAt (c, n) p
-fourthly (Fourth.Refused e) = refusedBy e
+abbrev pub channelsAndDepthAt : ChannelsAndDepth → At (ChannelAssignment × ℕ)
+channelsAndDepthAt (ChannelsAndDepth.Channels c n p) = gotAt (c, n) p
+channelsAndDepthAt (ChannelsAndDepth.Refused e) = refusedBy e
 
-abbrev pub coded : CodesRead → At Codes
-coded (CodesRead.Codes c p) = gotAt c p
-coded (CodesRead.Refused e) = refusedBy e
+abbrev pub codesAt : CodesRead → At Codes
+codesAt (CodesRead.Codes c p) = gotAt c p
+codesAt (CodesRead.Refused e) = refusedBy e
 
-abbrev pub timed : Time → At BlockTime
-timed (Time.At t p) = gotAt t p
-timed (Time.Refused e) = refusedBy e
-
-abbrev pub checked : Checked → At (Unit {0})
-checked (Checked.Passed p) = gotAt tt p
-checked (Checked.Refused e) = refusedBy e
-
--- ---- the refusal of each, where it has one
-
-abbrev pub fieldedRefusal : Field → Refusal
-fieldedRefusal (Field.Value v p) = Refusal.CutShort
-fieldedRefusal (Field.Refused e) = e
-
-abbrev pub thirdlyRefusal : Third → Refusal
-thirdlyRefusal (Third.Codes size rate p) = Refusal.CutShort
-thirdlyRefusal (Third.Refused e) = e
-
-abbrev pub fourthlyRefusal : Fourth → Refusal
-fourthlyRefusal (Fourth.Channels c n p) = Refusal.CutShort
-fourthlyRefusal (Fourth.Refused e) = e
-
-abbrev pub codedRefusal : CodesRead → Refusal
-codedRefusal (CodesRead.Codes c p) = Refusal.CutShort
-codedRefusal (CodesRead.Refused e) = e
-
-abbrev pub timedRefusal : Time → Refusal
-timedRefusal (Time.At t p) = Refusal.CutShort
-timedRefusal (Time.Refused e) = e
-
-abbrev pub checkedRefusal : Checked → Refusal
-checkedRefusal (Checked.Passed p) = Refusal.CutShort
-checkedRefusal (Checked.Refused e) = e
+abbrev pub timeAt : TimeRead → At BlockTime
+timeAt (TimeRead.At t p) = gotAt t p
+timeAt (TimeRead.Refused e) = refusedBy e

@@ -1,5 +1,5 @@
--- The channels, then the footer: where one stops, zeros; else the channels as they were recorded. Assumes nothing.
-use mathlib.Core.Path.{_≡_, refl, ap, _∙_}
+-- The channels, then the footer: zeros if one is refused, else the channels as they were recorded. Assumes nothing.
+use mathlib.Core.Path.{_≡_, ap, _∙_}
 use mathlib.Core.List.{List}
 use borrow.Author.Needs.{needs}
 use lib.IntN.{ℤ, pos}
@@ -10,10 +10,9 @@ use Rattle.rfc9639.specs.Header.{sampleCount}
 use Rattle.rfc9639.specs.Subframe.{subframe}
 use Rattle.rfc9639.specs.Frame.{widths}
 use Rattle.subframe.proofs.Lending.{done-is}
-use Rattle.header.proofs.Stepping.{passed-on}
-use Rattle.frame.specs.Private.{checked, checkedRefusal}
+use Rattle.header.specs.Answers.{checkedAt}
+use Rattle.header.proofs.Stepping.{answer-is}
 use Rattle.frame.proofs.Channels.{channels-stop, footer-stops, body-done}
-use Rattle.frame.proofs.Footing.{footer-got}
 use Rattle.frame.proofs.decode_body.Statement.{statement}
 use Rattle.frame.proofs.decode_body.Tie as tie
 
@@ -62,36 +61,32 @@ read-footer-requires c κs = search needs
 enum-known-end : tie.Need-enum-known-end
 enum-known-end c = search needs
 
-enum-told-2 : tie.Need-enum-told-2
-enum-told-2 c = search needs
+join-requires : tie.Need-join-requires
+unfolding sampleCount
+join-requires c κs = let m = c .before .before .before .before .before .before in long m ∙ start m .pre .2
+
+enum-known-end-2 : tie.Need-enum-known-end-2
+enum-known-end-2 c = search needs
 
 fill-requires-2 : tie.Need-fill-requires-2
 fill-requires-2 c κs = search needs
-
-checked-refusal-requires : tie.Need-checked-refusal-requires
-checked-refusal-requires c κs = search needs
 
 same-length-2 : tie.Need-same-length-2
 same-length-2 c = search needs
 
 returns-2 : tie.Need-returns-2
 returns-2 c =
-    let f = c .before .before in let k = f .before .before in let r = k .before .before in let m = r .before .before in let a = start m .args in
-    footer-stops (a .h) (a .s .now) (a .at) (got m) (length (a .out .now))
-    (passed-on checked checkedRefusal (r .read-footer .ensures) (k .enum-told2 .given .1) refl (c .checked-refusal .ensures))
-    (f .fill2 .ensures ∙ ap (λ n. replicate n (pos 0)) (long m))
-
-join-requires : tie.Need-join-requires
-unfolding sampleCount
-join-requires c κs = let m = c .before .before .before .before .before .before in long m ∙ start m .pre .2
+    let j = c .before in let e = j .before .before .before in let r = e .before .before in let m = r .before .before in let a = start m .args in
+    body-done (a .h) (a .s .now) (a .at) (got m) (length (a .out .now)) (answer-is checkedAt (r .read-footer .ensures) (e .end .given .1)) (j .join .ensures)
 
 same-length-3 : tie.Need-same-length-3
 same-length-3 c = search needs
 
 returns-3 : tie.Need-returns-3
 returns-3 c =
-    let j = c .before in let e = j .before .before .before in let r = e .before .before in let m = r .before .before in let a = start m .args in
-    body-done (a .h) (a .s .now) (a .at) (got m) (length (a .out .now)) (footer-got (a .s .now) _ (r .read-footer .ensures) (e .end .given .1)) (j .join .ensures)
+    let f = c .before in let e = f .before .before .before in let r = e .before .before in let m = r .before .before in let a = start m .args in
+    footer-stops (a .h) (a .s .now) (a .at) (got m) (length (a .out .now)) (answer-is checkedAt (r .read-footer .ensures) (e .end2 .given .1))
+    (f .fill2 .ensures ∙ ap (λ n. replicate n (pos 0)) (long m))
 
 pub decode-body-spec : {M : Type 1} → statement M
 decode-body-spec =
@@ -105,11 +100,10 @@ decode-body-spec =
     returns
     read-footer-requires
     enum-known-end
-    enum-told-2
+    join-requires
+    enum-known-end-2
     fill-requires-2
-    checked-refusal-requires
     same-length-2
     returns-2
-    join-requires
     same-length-3
     returns-3)

@@ -1,4 +1,4 @@
--- Each turn lends the next part to the decoder of a channel (Dividing). Assumes nothing.
+-- Each turn lends the next part of the buffer to the decoder of a channel. Assumes nothing.
 use Prim.Native.Nat.{_-_, _*_, _≤_, _<_}
 use native.Mathlib.Omega.{arith}
 use mathlib.Core.Path.{_≡_, ap, sym, _∙_}
@@ -16,12 +16,12 @@ Inv-loop s h out₀ c n count p₀ start₀ channel₀ out p start channel = Div
 abbrev μ-loop : tie.MeasureT-loop
 μ-loop s h out₀ c n count p₀ start₀ channel₀ out p start channel = count - channel
 
--- so many channels, so many widths
+-- as many widths as channels
 counted : (c : tie.After-channel-count Inv-loop μ-loop)
     → length (widths (c .before .before .args .h .channels) (c .before .before .args .h .bits)) ≡ c .channel-count .result
 counted c = widths-length (c .before .before .args .h .channels) (c .before .before .args .h .bits) ∙ sym (c .channel-count .ensures)
 
--- a turn has a width
+-- each turn has a width
 wide : (c : tie.In-loop Inv-loop μ-loop)
     → c .before .loop .channel < length (widths (c .before .before .before .before .args .h .channels) (c .before .before .before .before .args .h .bits))
 wide c = omega (arith, counted (c .before .before))

@@ -1,10 +1,10 @@
--- The whole: nothing left, no header, or what is behind the header. Assumes nothing.
-use mathlib.Core.Path.{refl, sym}
+-- The whole frame: an empty input, no header, or a header and what follows it. Assumes nothing.
+use mathlib.Core.Path.{ap, sym, _∙_}
 use borrow.Author.Needs.{needs}
 use Rattle.header.specs.Answers.{headed}
-use Rattle.frame.specs.Private.{headedRefusal}
-use Rattle.header.proofs.Heading.{header-got}
-use Rattle.header.proofs.Stepping.{passed-on}
+use Rattle.error.specs.Numbers.{refusedBy}
+use Rattle.header.proofs.Stepping.{answer-is}
+use Rattle.frame.specs.Private.{headerRefusal}
 use Rattle.frame.proofs.Answering.{nothing-left, header-stops}
 use Rattle.frame.proofs.read_frame.Statement.{statement}
 use Rattle.frame.proofs.read_frame.Tie as tie
@@ -26,12 +26,12 @@ header-refusal-requires c κs = search needs
 
 returns-2 : tie.Need-returns-2
 returns-2 c =
-    let r = c .before .before .before in
+    let r = c .before .before .before in let e = c .before .enum-told .given .1 in
     header-stops _ _ (r .before .if1 .left) (c .header-refusal .result)
-    (passed-on headed headedRefusal (r .read-header .ensures) (c .before .enum-told .given .1) refl (c .header-refusal .ensures))
+    (answer-is headed (r .read-header .ensures) e ∙ ap refusedBy (sym (c .header-refusal .ensures ∙ ap headerRefusal e)))
 
-read-behind-requires : tie.Need-read-behind-requires
-read-behind-requires c κs = let g = c .before .before in sym (header-got _ (g .before .before .read-header .ensures) (g .read .given .1))
+read-body-requires : tie.Need-read-body-requires
+read-body-requires c κs = let g = c .before .before in sym (answer-is headed (g .before .before .read-header .ensures) (g .read .given .1))
 
 same-length : tie.Need-same-length
 same-length c = search needs
@@ -49,6 +49,6 @@ read-frame-spec =
     enum-told
     header-refusal-requires
     returns-2
-    read-behind-requires
+    read-body-requires
     same-length
     returns-3)

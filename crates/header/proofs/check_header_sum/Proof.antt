@@ -8,7 +8,9 @@ use Rattle.reading.specs.Reading.{bits}
 use Rattle.reading.specs.Places.{gotAt, runAt}
 use Rattle.reading.proofs.Running.{In, inside-in, runAt-out}
 use Rattle.input.proofs.Laws.{read-got, read-short}
-use Rattle.header.proofs.Heading.{sum-short, sum-differs, sum-fits}
+use Rattle.rfc9639.specs.CheckSums.{crc8}
+use Rattle.rfc9639.specs.Header.{headerSum}
+use Rattle.header.proofs.StoredSum.{sum-short, sum-differs, sum-fits}
 use Rattle.header.proofs.check_header_sum.Statement.{statement}
 use Rattle.header.proofs.check_header_sum.Tie as tie
 
@@ -18,7 +20,7 @@ is-inside-requires c κs = search needs
 returns : tie.Need-returns
 returns c = sym (runAt-out _ _ _ (cc (not-true (c .before .is-inside .result) (c .if1 .taken))))
 
--- behind the first test the place is one of the input
+-- after the first test the place is inside the input
 here : (c : tie.Else1) → In (c .before .before .before .args .s .now) (c .before .before .before .args .at)
 here c = inside-in _ _ (cc (not-false (c .before .is-inside .result) (c .if1 .left)))
 
@@ -38,7 +40,8 @@ enum-told : tie.Need-enum-told
 enum-told c = search needs
 
 returns-2 : tie.Need-returns-2
-returns-2 c = sym (sum-short _ _ (here (c .before .before .before .before .before)) (c .before .before .before .before .before .before .before .before .pre) (read-short 8 _ _ (search needs) (c .before .before .read-bits .ensures) (c .enum-told .given .1)))
+unfolding headerSum
+returns-2 c = sym (sum-short 8 crc8 6 _ _ (here (c .before .before .before .before .before)) (c .before .before .before .before .before .before .before .before .pre) (read-short 8 _ _ (search needs) (c .before .before .read-bits .ensures) (c .enum-told .given .1)))
 
 cast-if2 : tie.Need-cast-if2
 cast-if2 c = search needs
@@ -48,10 +51,12 @@ read-is : (c : tie.After-read) → runAt (bits 8) (c .before .before .before .be
 read-is c = read-got 8 _ _ (search needs) (c .before .before .read-bits .ensures) (c .read .given .1)
 
 returns-3 : tie.Need-returns-3
-returns-3 c = sym (sum-differs _ _ (here (c .before .before .before .before .before .before .before)) (c .before .before .before .before .before .before .before .before .before .before .pre) (read-is (c .before .before)) (c .before .before .before .before .before .crc8 .ensures) (c .if2 .taken))
+unfolding headerSum
+returns-3 c = sym (sum-differs 8 crc8 6 _ _ (here (c .before .before .before .before .before .before .before)) (c .before .before .before .before .before .before .before .before .before .before .pre) (read-is (c .before .before)) (c .before .before .before .before .before .crc8 .ensures) (c .if2 .taken))
 
 returns-4 : tie.Need-returns-4
-returns-4 c = sym (sum-fits _ _ (here (c .before .before .before .before .before .before .before)) (c .before .before .before .before .before .before .before .before .before .before .pre) (read-is (c .before .before)) (c .before .before .before .before .before .crc8 .ensures) (c .if2 .left))
+unfolding headerSum
+returns-4 c = sym (sum-fits 8 crc8 6 _ _ (here (c .before .before .before .before .before .before .before)) (c .before .before .before .before .before .before .before .before .before .before .pre) (read-is (c .before .before)) (c .before .before .before .before .before .crc8 .ensures) (c .if2 .left))
 
 pub check-header-sum-spec : {M : Type 1} → statement M
 check-header-sum-spec =

@@ -1,4 +1,4 @@
--- The bits of a sample and the zero bit, as the definition reads them. Assumes nothing.
+-- The bit depth and the reserved bit, as the definition reads them. Assumes nothing.
 use borrow.Author.Needs.{needs}
 use borrow.Author.Tests.{eq-eqb, ne-eqb}
 use mathlib.Core.Path.{_≡_, sym, ap, _∙_}
@@ -53,7 +53,7 @@ returns-2 : tie.Need-returns-2
 unfolding depthAndZero
 returns-2 c = sym (bind-got (bits 3) _ _ _ (code-is (c .before .before .before .before .before .before .before .before)) ∙ known-done _ _ _ _ (depth-is (c .before .before .before .before)) ∙ bind-short (bits 1) _ _ _ (bit-is _ _ (c .before .before .read-bits2 .ensures) (c .enum-told2 .given .1)))
 
--- the bit behind it
+-- the bit after it
 zero-is : (c : tie.After-last) → runAt (bits 1) (c .before .before .before .before .before .before .before .before .before .before .before .before .args .s .now) (c .before .before .before .before .before .before .before .before .read .given .0 .1 .0) ≡ gotAt (c .last .given .0 .0) (c .last .given .0 .1 .0)
 zero-is c = bit-is _ _ (c .before .before .read-bits2 .ensures) (c .last .given .1)
 

@@ -1,12 +1,12 @@
--- The header that starts the input: its first four bytes, then what is behind them. Assumes nothing.
+-- The header at the start of the input: its first four bytes, then the rest. Assumes nothing.
 use borrow.Author.Needs.{needs}
-use mathlib.Core.Path.{_≡_, refl, sym, ap, _∙_}
+use mathlib.Core.Path.{_≡_, sym, _∙_}
 use Rattle.reading.specs.Places.{gotAt, placeOf, runAt}
 use Rattle.reading.proofs.Running.{bind-got}
 use Rattle.rfc9639.specs.Header.{codes, header}
-use Rattle.header.specs.Private.{coded, codedRefusal}
+use Rattle.header.specs.Private.{codesAt}
 use Rattle.error.proofs.Passing.{bind-refusal}
-use Rattle.header.proofs.Stepping.{passed-on}
+use Rattle.header.proofs.Stepping.{answer-is}
 use Rattle.header.proofs.Heading.{codes-coded, codes-byte}
 use Rattle.header.proofs.read_header.Statement.{statement}
 use Rattle.header.proofs.read_header.Tie as tie
@@ -17,26 +17,23 @@ read-codes-requires c κs = search needs
 enum-known-read : tie.Need-enum-known-read
 enum-known-read c = search needs
 
-enum-told : tie.Need-enum-told
-enum-told c = search needs
+-- the codes that were read
+codes-are : (c : tie.After-read) → runAt codes (c .before .before .before .before .args .s .now) (placeOf 0) ≡ gotAt (c .read .given .0 .0) (c .read .given .0 .1 .0)
+codes-are c = answer-is codesAt (c .before .before .read-codes .ensures) (c .read .given .1)
 
-codes-refusal-requires : tie.Need-codes-refusal-requires
-codes-refusal-requires c κs = search needs
+read-header-after-codes-requires : tie.Need-read-header-after-codes-requires
+read-header-after-codes-requires c κs = let e = codes-are (c .before) in let k = codes-coded _ e in (codes-byte _ e, k .blocking, k .size)
+
+enum-known-read-2 : tie.Need-enum-known-read-2
+enum-known-read-2 c = search needs
 
 returns : tie.Need-returns
 unfolding header
-returns c = sym (bind-refusal codes _ _ _ (c .codes-refusal .result) (passed-on coded codedRefusal (c .before .before .before .read-codes .ensures) (c .before .enum-told .given .1) refl (c .codes-refusal .ensures)))
-
--- the codes that were read
-codes-are : (c : tie.After-read) → runAt codes (c .before .before .before .before .args .s .now) (placeOf 0) ≡ gotAt (c .read .given .0 .0) (c .read .given .0 .1 .0)
-codes-are c = sym (c .before .before .read-codes .ensures) ∙ ap coded (c .read .given .1)
-
-read-header-behind-requires : tie.Need-read-header-behind-requires
-read-header-behind-requires c κs = (codes-byte _ (codes-are (c .before)), codes-coded _ (codes-are (c .before)) .blocking, codes-coded _ (codes-are (c .before)) .size)
+returns c = c .read-header-after-codes .ensures ∙ sym (bind-got codes _ _ _ (codes-are (c .before .before)))
 
 returns-2 : tie.Need-returns-2
 unfolding header
-returns-2 c = c .read-header-behind .ensures ∙ sym (bind-got codes _ _ _ (codes-are (c .before .before)))
+returns-2 c = let r = c .before in sym (bind-refusal codes _ _ _ (r .read2 .given .0 .0) (answer-is codesAt (r .before .before .read-codes .ensures) (r .read2 .given .1)))
 
 pub read-header-spec : {M : Type 1} → statement M
 read-header-spec =
@@ -44,8 +41,7 @@ read-header-spec =
     (tie.spec
     read-codes-requires
     enum-known-read
-    enum-told
-    codes-refusal-requires
+    read-header-after-codes-requires
+    enum-known-read-2
     returns
-    read-header-behind-requires
     returns-2)

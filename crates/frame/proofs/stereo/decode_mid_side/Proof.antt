@@ -1,4 +1,4 @@
--- `decode_mid_side` meets its contract. The loop's invariant (Joining): the first i pairs are joined. Assumes nothing.
+-- The loop of `decode_mid_side`: after i turns the first i pairs are joined. Assumes nothing.
 use Prim.Native.Nat.{_-_}
 use native.Mathlib.Omega.{arith}
 use mathlib.Core.Path.{_∙_}

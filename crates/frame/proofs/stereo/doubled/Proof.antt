@@ -1,4 +1,4 @@
--- `doubled` meets its contract: the low bit and the sum are exact at 64 bits, and 32 are kept. Assumes nothing.
+-- `doubled`: the low bit and the sum are exact in 64 bits, of which 32 are kept. Assumes nothing.
 use mathlib.Core.Path.{_≡_, ap, ap₂, _∙_}
 use borrow.Author.Needs.{needs}
 use lib.IntN.{ℤ, pos, _+ℤ_, _-ℤ_, _*ℤ_}

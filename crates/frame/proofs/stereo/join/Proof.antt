@@ -1,4 +1,4 @@
--- `join` meets its contract, by the channel assignment. Assumes nothing.
+-- `join`, by the channel assignment. Assumes nothing.
 use Prim.Native.Nat.{_*_}
 use mathlib.Core.Path.{_≡_, ap, sym, _∙_}
 use borrow.Author.Needs.{needs}
@@ -10,7 +10,7 @@ use Rattle.frame.proofs.stereo.join.Statement.{statement}
 use Rattle.frame.proofs.stereo.join.Tie as tie
 
 module _ (c : tie.Start) {which : ChannelAssignment} (e : c .args .channels ≡ which) where
-  -- what the match told of the channels
+  -- what the match found of the channels
   count : length (c .args .out .now) ≡ channelCount which * c .args .n
   count = c .pre ∙ ap (λ a. channelCount a * c .args .n) e
 

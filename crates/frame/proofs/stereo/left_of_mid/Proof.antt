@@ -1,4 +1,4 @@
--- `left_of_mid` meets its contract: half of a number that fits 32 bits fits them. Assumes nothing.
+-- `left_of_mid`: half of a number that fits 32 bits fits them too. Assumes nothing.
 use borrow.Author.Needs.{needs}
 use lib.IntN.{ℤ, _+ℤ_}
 use Rattle.rfc9639.specs.Stereo.{leftOfMid}

@@ -1,4 +1,4 @@
--- The bytes behind the first, as the definition reads them. The loop keeps what is still to be got; the bytes to come count down. Assumes nothing.
+-- The bytes after the first, as the definition reads them; the loop counts down those to come. Assumes nothing.
 use borrow.Author.Needs.{needs}
 use borrow.Author.Tests.{not-true, not-false}
 use native.Mathlib.Omega.{arith}
@@ -8,8 +8,8 @@ use Rattle.reading.specs.Places.{gotAt, runAt}
 use Rattle.reading.proofs.Running.{runAt-out}
 use Rattle.input.proofs.Laws.{read-got, read-short}
 use Rattle.header.proofs.Coding.{Following, begin, end, cut, wrong, step, fits}
-use Rattle.header.proofs.coded.read_followers.Statement.{statement}
-use Rattle.header.proofs.coded.read_followers.Tie as tie
+use Rattle.header.proofs.coded_number.read_followers.Statement.{statement}
+use Rattle.header.proofs.coded_number.read_followers.Tie as tie
 
 abbrev Inv-loop : tie.InvT-loop
 Inv-loop s n v p₀ number₀ left₀ p number left = Following s n v p₀ left number p

@@ -1,8 +1,8 @@
--- What is behind a header, by the tests and the calls that were made (Answering). Assumes nothing.
+-- The frame after its header, by the tests and the calls that were made. Assumes nothing.
 use Prim.Native.Nat.{ℕ, _*_, _≤_}
 use native.Mathlib.Nat.{mul-le-mul}
 use native.Mathlib.Omega.{arith}
-use mathlib.Core.Path.{_≡_, refl, ap, sym, _∙_, subst}
+use mathlib.Core.Path.{_≡_, ap, sym, _∙_, subst}
 use mathlib.Core.List.{List, _++_}
 use borrow.Author.Needs.{needs}
 use lib.IntN.{ℤ}
@@ -16,8 +16,8 @@ use Rattle.input.proofs.Laws.{bit-is}
 use Rattle.subframe.specs.Answers.{Left}
 use Rattle.header.proofs.Heading.{header-sound}
 use Rattle.frame.proofs.Answering.{no-bits, no-room, no-first-bit, body-read, body-refused}
-use Rattle.frame.proofs.read_behind.Statement.{statement}
-use Rattle.frame.proofs.read_behind.Tie as tie
+use Rattle.frame.proofs.read_body.Statement.{statement}
+use Rattle.frame.proofs.read_body.Tie as tie
 
 channel-count-requires : tie.Need-channel-count-requires
 channel-count-requires c κs = search needs
@@ -40,7 +40,7 @@ module _ (c : tie.After-channel-count) where
   headed-is = sym (start .pre)
 
   sound : Sound (start .args .h)
-  sound = header-sound bytes (start .pre) refl
+  sound = header-sound bytes headed-is
 
   count-is : count ≡ sampleCount (start .args .h)
   unfolding sampleCount
@@ -94,7 +94,7 @@ decode-body-requires c κs =
     let i = c .before .before .before .before in let k = i .before .before .before in
     (sound k .mono, sound k .bits, part-is k (i .if2 .left))
 
--- a body that was begun
+-- a body whose decoding has begun
 module _ (c : tie.After-decode-body) where
   abbrev told-bit : tie.After-enum-told
   told-bit = c .before .before
@@ -149,8 +149,8 @@ returns-5 c =
     body-refused (bytes k) (lent k) (headed-is k) (inner d .before .if1 .left) (fits (inner d)) (bit-is (bytes k) _ (t .before .before .read-bits .ensures) (t .enum-told .given .1))
     (left d) (stands d) (g .decoded2 .given .1)
 
-pub read-behind-spec : {M : Type 1} → statement M
-read-behind-spec =
+pub read-body-spec : {M : Type 1} → statement M
+read-body-spec =
     tie.close
     (tie.spec
     channel-count-requires

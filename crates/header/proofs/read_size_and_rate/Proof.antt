@@ -10,8 +10,8 @@ use Rattle.reading.proofs.Running.{bind-short, bits-below}
 use Rattle.input.proofs.Laws.{read-got, read-short}
 use Rattle.rfc9639.specs.Header.{sizeAndRate}
 use Rattle.header.proofs.Stepping.{check-fails, check-holds, check-done}
-use Rattle.header.proofs.read_third.Statement.{statement}
-use Rattle.header.proofs.read_third.Tie as tie
+use Rattle.header.proofs.read_size_and_rate.Statement.{statement}
+use Rattle.header.proofs.read_size_and_rate.Tie as tie
 
 read-bits-requires : tie.Need-read-bits-requires
 read-bits-requires c κs = search needs
@@ -47,7 +47,7 @@ returns-3 : tie.Need-returns-3
 unfolding sizeAndRate
 returns-3 c = sym (check-holds (bits 4) _ _ (ltb 0) 4 (size-is (c .before .before .before .before .before)) _ (lt-ltb 0 (c .before .before .before .before .before .first .given .0 .0) (omega arith)) ∙ bind-short (bits 4) _ _ _ (read-short 4 _ _ (search needs) (c .before .before .read-bits2 .ensures) (c .enum-told2 .given .1)))
 
--- the rate's, behind it
+-- the rate's code, after it
 rate-is : (c : tie.After-second) → runAt (bits 4) (c .before .before .before .before .before .before .before .before .before .args .s .now) (c .before .before .before .before .before .first .given .0 .1 .0) ≡ gotAt (c .second .given .0 .0) (c .second .given .0 .1 .0)
 rate-is c = read-got 4 _ _ (search needs) (c .before .before .read-bits2 .ensures) (c .second .given .1)
 
@@ -59,8 +59,8 @@ returns-5 : tie.Need-returns-5
 unfolding sizeAndRate
 returns-5 c = sym (check-holds (bits 4) _ _ (ltb 0) 4 (size-is (c .before .before .before .before .before .before .before)) _ (lt-ltb 0 (c .before .before .before .before .before .before .before .first .given .0 .0) (omega arith)) ∙ check-done (bits 4) _ _ (λ x. ltb x 15) 4 (rate-is (c .before .before)) _ (lt-ltb (c .before .before .second .given .0 .0) 15 (omega (arith, bits-below 4 _ _ (rate-is (c .before .before))))))
 
-pub read-third-spec : {M : Type 1} → statement M
-read-third-spec =
+pub read-size-and-rate-spec : {M : Type 1} → statement M
+read-size-and-rate-spec =
     tie.close
     (tie.spec
     read-bits-requires

@@ -1,11 +1,11 @@
--- What a first byte says, test by test as in the definition. Assumes nothing.
+-- The number by its first byte, test by test as in the definition. Assumes nothing.
 use borrow.Author.Needs.{needs}
 use borrow.Author.Tests.{lt-ltb, le-ltb}
 use mathlib.Core.Path.{sym}
 use Rattle.reading.proofs.Running.{inside-in, runAt-stop}
 use Rattle.rfc9639.specs.Number.{followed, numberFrom}
-use Rattle.header.proofs.coded.read_number_from.Statement.{statement}
-use Rattle.header.proofs.coded.read_number_from.Tie as tie
+use Rattle.header.proofs.coded_number.read_number_from.Statement.{statement}
+use Rattle.header.proofs.coded_number.read_number_from.Tie as tie
 
 read-followers-requires : tie.Need-read-followers-requires
 read-followers-requires c κs = search needs

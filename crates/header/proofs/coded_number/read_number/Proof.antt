@@ -1,4 +1,4 @@
--- The coded number: its first byte, then what that says. Assumes nothing.
+-- The coded number: its first byte, then the bytes that it announces. Assumes nothing.
 use borrow.Author.Needs.{needs}
 use mathlib.Core.Path.{_≡_, sym, _∙_}
 use Rattle.reading.specs.Reading.{bits}
@@ -6,8 +6,8 @@ use Rattle.reading.specs.Places.{gotAt, runAt}
 use Rattle.reading.proofs.Running.{stays-in, in-inside, bits-below, bind-got, bind-short}
 use Rattle.input.proofs.Laws.{read-got, read-short}
 use Rattle.rfc9639.specs.Number.{codedNumber}
-use Rattle.header.proofs.coded.read_number.Statement.{statement}
-use Rattle.header.proofs.coded.read_number.Tie as tie
+use Rattle.header.proofs.coded_number.read_number.Statement.{statement}
+use Rattle.header.proofs.coded_number.read_number.Tie as tie
 
 read-bits-requires : tie.Need-read-bits-requires
 read-bits-requires c κs = search needs

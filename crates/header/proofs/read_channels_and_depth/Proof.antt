@@ -1,4 +1,4 @@
--- The channels and the bits of a sample, as the definition reads them. Assumes nothing.
+-- The channels and the bit depth, as the definition reads them. Assumes nothing.
 use Prim.Native.Nat.{_≤_}
 use borrow.Author.Needs.{needs}
 use borrow.Author.Tests.{le-leb, lt-leb}
@@ -11,11 +11,11 @@ use Rattle.reading.proofs.Holding.{Meets, holds-at}
 use Rattle.input.proofs.Laws.{read-got, read-short}
 use Rattle.rfc9639.specs.Header.{depthAndZero, channelsAndBits}
 use Rattle.demands.proofs.Frames.{Early, zero-holds}
-use Rattle.header.specs.Private.{fielded}
+use Rattle.header.specs.Private.{numberAt}
 use Rattle.error.proofs.Passing.{bind-refusal}
 use Rattle.header.proofs.Stepping.{then-done, check-fails, check-holds}
-use Rattle.header.proofs.read_fourth.Statement.{statement}
-use Rattle.header.proofs.read_fourth.Tie as tie
+use Rattle.header.proofs.read_channels_and_depth.Statement.{statement}
+use Rattle.header.proofs.read_channels_and_depth.Tie as tie
 
 read-bits-requires : tie.Need-read-bits-requires
 read-bits-requires c κs = search needs
@@ -47,9 +47,9 @@ enum-known-depth c = search needs
 channel-assignment-requires : tie.Need-channel-assignment-requires
 channel-assignment-requires c κs = search needs
 
--- the bits behind it, which are few
+-- the bit depth after it, which is at most 24
 depth-is : (c : tie.After-depth) → runAt depthAndZero (c .before .before .before .before .before .before .before .before .before .args .s .now) (c .before .before .before .before .before .read .given .0 .1 .0) ≡ gotAt (c .depth .given .0 .0) (c .depth .given .0 .1 .0)
-depth-is c = sym (c .before .before .read-depth .ensures) ∙ ap fielded (c .depth .given .1)
+depth-is c = sym (c .before .before .read-depth .ensures) ∙ ap numberAt (c .depth .given .1)
 
 depth-few : (c : tie.After-depth) → c .depth .given .0 .0 ≤ 24
 depth-few c = subst (Meets Early (λ d. d ≤ 24)) (depth-is c) (holds-at Early _ _ _ zero-holds)
@@ -66,10 +66,10 @@ returns-3 c = ap (λ a. gotAt (a, c .before .before .depth .given .0 .0) (c .bef
 
 returns-4 : tie.Need-returns-4
 unfolding channelsAndBits
-returns-4 c = sym (check-holds (bits 4) _ _ _ 4 (code-is (c .before .before .before .before .before .before)) _ (le-leb _ _ (c .before .before .before .before .if1 .left)) ∙ bind-refusal depthAndZero _ _ _ (c .before .depth2 .given .0 .0) (sym (c .before .before .before .read-depth .ensures) ∙ ap fielded (c .before .depth2 .given .1)))
+returns-4 c = sym (check-holds (bits 4) _ _ _ 4 (code-is (c .before .before .before .before .before .before)) _ (le-leb _ _ (c .before .before .before .before .if1 .left)) ∙ bind-refusal depthAndZero _ _ _ (c .before .depth2 .given .0 .0) (sym (c .before .before .before .read-depth .ensures) ∙ ap numberAt (c .before .depth2 .given .1)))
 
-pub read-fourth-spec : {M : Type 1} → statement M
-read-fourth-spec =
+pub read-channels-and-depth-spec : {M : Type 1} → statement M
+read-channels-and-depth-spec =
     tie.close
     (tie.spec
     read-bits-requires
