@@ -81,7 +81,7 @@ pub mid-abs : (a b : ℤ) → SFits w32 a → SFits w32 b → natAbs (midOf a b)
 unfolding midOf sumOf
 mid-abs a b f g = omega (arith, abs-shiftDown 1 (sumOf a b), abs-of-fits (sum-fits f g))
 
--- ---- a sample of a lane, as the function has it: a signed value is handed on by its bits
+-- ---- a sample of a lane, as the code has it (a signed value goes by its bits)
 
 abbrev bits32 : ℤ → ℤ
 bits32 z = toZ w32 (ofZ w32 z)
@@ -102,7 +102,7 @@ module _ {n : ℕ} {xs : List ℤ} {c : ℕ} {l : List ℤ} (e : Single n xs c l
         rw (widened f)
         (sym (ap (λ (t : List ℤ). getD t i (pos 0)) (e .is) ∙ channel-getD n xs c i (omega (arith, length-channel))), omega (arith, abs-of-fits (of-sfits f)))
 
--- of the first two channels there are as many pairs as the second has
+-- there are as many pairs as the second channel has samples
 module _ {f : ℤ → ℤ → ℤ} {n : ℕ} {xs l : List ℤ} (e : Paired f n xs l) where
   pub length-both : length l ≡ min n (length xs - 1 * n)
   length-both =
@@ -123,7 +123,7 @@ module _ {f : ℤ → ℤ → ℤ} {n : ℕ} {xs l : List ℤ} (e : Paired f n x
         at c = channel-getD n xs c i (omega (arith, length-both))
 
     pub both-sample : ((a b : ℤ) → SFits w32 a → SFits w32 b → natAbs (f a b) ≤ 2 ^ 32)
-        → SFits w32 (getD xs i (pos 0)) → SFits w32 (getD xs (n + i) (pos 0))
-        → {r : ℤ} → SFits w64 r → r ≡ f (bits32 (getD xs i (pos 0))) (bits32 (getD xs (n + i) (pos 0))) → Sample l i r
-    both-sample small fx fy g d =
-        rw (toZ-ofZ g, d, toZ-ofZ fx, toZ-ofZ fy) (sym both-at, small _ _ fx fy)
+        → {a b : ℤ} → SFits w32 a → SFits w32 b → (a ≡ getD xs i (pos 0)) × (b ≡ getD xs (n + i) (pos 0))
+        → {r : ℤ} → SFits w64 r → r ≡ f (bits32 a) (bits32 b) → Sample l i r
+    both-sample small fa fb e g d =
+        rw (toZ-ofZ g, d, toZ-ofZ fa, toZ-ofZ fb) (ap₂ f (e .0) (e .1) ∙ sym both-at, small _ _ fa fb)
