@@ -15,9 +15,10 @@ use Rattle.rfc9639.specs.declared.Lane.the-variants.{Channel, Mid, Side}
 use Rattle.rfc9639.specs.Stereo.{pairwise}
 use Rattle.rfc9639.specs.Write.{channel, stored, midOf, sideOf}
 use Rattle.rfc9639.proofs.Lengths.{length-pairwise, length-channel as channel-long}
-use Rattle.rfc9639.proofs.Widths.{Fits, of-sfits, fits-add, fits-sub}
+use Rattle.rfc9639.proofs.Widths.{of-sfits}
 use Rattle.rfc9639.proofs.Machine.{widened}
 use Rattle.number.proofs.Sizes.{abs-of-fits, abs-shiftDown}
+use Rattle.number.proofs.ExactSums.{sum-fits-33, difference-fits-33}
 
 -- where channel c starts
 pub start-lt : (c n : ℕ) → c < 2 ^ 32 → n < 2 ^ 16 → c * n < 2 ^ 64
@@ -63,23 +64,13 @@ module _ (n : ℕ) (xs : List ℤ) {lane : Lane} where
 
 -- ---- how large a sample is
 
-pub side-fits : {a b : ℤ} → SFits w32 a → SFits w32 b → Fits 33 (sideOf a b)
-unfolding sideOf
-side-fits f g = fits-sub {w = 32} (omega arith) (of-sfits f) (of-sfits g)
-
-unfoldable pub sumOf : ℤ → ℤ → ℤ
-sumOf a b = a +ℤ b
-
-pub sum-fits : {a b : ℤ} → SFits w32 a → SFits w32 b → Fits 33 (sumOf a b)
-unfolding sumOf
-sum-fits f g = fits-add {w = 32} (omega arith) (of-sfits f) (of-sfits g)
-
 pub side-abs : (a b : ℤ) → SFits w32 a → SFits w32 b → natAbs (sideOf a b) ≤ 2 ^ 32
-side-abs a b f g = abs-of-fits (side-fits f g)
+unfolding sideOf
+side-abs a b f g = abs-of-fits (difference-fits-33 f g)
 
 pub mid-abs : (a b : ℤ) → SFits w32 a → SFits w32 b → natAbs (midOf a b) ≤ 2 ^ 32
-unfolding midOf sumOf
-mid-abs a b f g = omega (arith, abs-shiftDown 1 (sumOf a b), abs-of-fits (sum-fits f g))
+unfolding midOf
+mid-abs a b f g = omega (arith, abs-shiftDown 1 (a +ℤ b), abs-of-fits (sum-fits-33 f g))
 
 -- ---- a sample of a lane, as the code has it (a signed value goes by its bits)
 

@@ -1,7 +1,7 @@
 -- `predict_order_1` meets its contract: one product, exact. Assumes nothing.
 use Prim.Native.Nat.{ℕ}
 use native.Mathlib.Omega.{arith}
-use mathlib.Core.List.{List, [], _∷_}
+use mathlib.Core.List.{List, []}
 use borrow.Author.Needs.{needs}
 use lib.IntN.{ℤ}
 use Rattle.rfc9639.specs.Prediction.{fixedCoefficients}
