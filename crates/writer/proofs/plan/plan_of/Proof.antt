@@ -60,10 +60,11 @@ loop-again c =
 
 returns : tie.Need-returns Inv-loop μ-loop
 returns c =
-    let l = c .before in let n = l .before .channel-count .ensures in
-    (planned-all _ _ _ _ (l .loop .inv .0) (c .loop-test .left) n,
-    counted-all _ _ (l .loop .inv .1) (at-end _ _ (l .loop .inv .0) (c .loop-test .left)) n,
-    omega (arith, l .loop .inv .0 .few, l .loop .inv .0 .within, l .loop .inv .1 .small))
+    let l = c .before in let n = l .before .channel-count .ensures in (
+      planned-all _ _ _ _ (l .loop .inv .0) (c .loop-test .left) n,
+      counted-all _ _ (l .loop .inv .1) (at-end _ _ (l .loop .inv .0) (c .loop-test .left)) n,
+      omega (arith, l .loop .inv .0 .few, l .loop .inv .0 .within, l .loop .inv .1 .small),
+    )
 
 pub plan-of-spec : {M : Type 1} → statement M
 plan-of-spec =
