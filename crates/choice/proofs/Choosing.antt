@@ -1,4 +1,4 @@
--- The choice over all candidates, order by order. Assumes nothing.
+-- The choice among all candidates, order by order. Assumes nothing.
 use Prim.Native.Nat.{ℕ, suc, _+_, _-_, _≤_, _<_, min}
 use native.Mathlib.Numerals.{add-one}
 use native.Mathlib.Omega.{arith}
@@ -13,7 +13,7 @@ use Rattle.rfc9639.specs.Coding.{uniform, counting, fixedOnes, candidates, fewe
 use Rattle.rfc9639.proofs.Choosing.{fewestOf-append}
 use Rattle.choice.specs.declared.Choice.{Choice}
 use Rattle.choice.specs.Choices.{choiceOf}
-use Rattle.choice.specs.Private.{priced, weight, plainestOf}
+use Rattle.choice.specs.Private.{priced, pricedFixed, weight, plainestOf}
 use Rattle.choice.proofs.Pricing.{fewest-priced}
 
 -- how many orders there are
@@ -21,7 +21,7 @@ abbrev pub limit : List ℤ → ℕ
 limit xs = min 5 (length xs)
 
 module _ (w : ℕ) (xs : List ℤ) where
-  -- The whole answer is the answer from here: the orders below are judged.
+  -- The orders below `order` are judged: choosing among the rest gives the whole answer.
   pub record Judged (best : Choice) (order : ℕ) : Type 0 where
     pub within : order ≤ limit xs
     pub rest : choiceOf w xs ≡ fewestOf weight best (map (priced w xs) (fixedOnes (counting order (limit xs - order))))
@@ -44,20 +44,20 @@ module _ (w : ℕ) (xs : List ℤ) where
       go false = sym (fewest-priced w xs Verbatim fixedAll)
 
   module _ {best : Choice} {order : ℕ} (inv : Judged best order) where
-    pub step : {c : Choice} → order < limit xs → c ≡ fewestOf weight best (map (priced w xs) (map (Fixed order) (counting 0 15))) → Judged c (order + 1)
+    pub step : {c : Choice} → order < limit xs → c ≡ fewestOf weight best (pricedFixed w xs order) → Judged c (order + 1)
     unfolding counting fixedOnes
     step {c} h e = record {
       within = omega arith;
       rest =
           inv .rest
           ∙ ap (λ n. fewestOf weight best (map (priced w xs) (fixedOnes (counting order n)))) (let d : limit xs - order ≡ suc (limit xs - (order + 1)) = omega arith in d)
-          ∙ ap (fewestOf weight best) (map-append (priced w xs) (map (Fixed order) (counting 0 15)) behind)
-          ∙ fewestOf-append weight best (map (priced w xs) (map (Fixed order) (counting 0 15))) (map (priced w xs) behind)
+          ∙ ap (fewestOf weight best) (map-append (priced w xs) (map (Fixed order) (counting 0 15)) others)
+          ∙ fewestOf-append weight best (pricedFixed w xs order) (map (priced w xs) others)
           ∙ ap₂ (λ (b : Choice) n. fewestOf weight b (map (priced w xs) (fixedOnes (counting n (limit xs - (order + 1)))))) (sym e) (sym (add-one order));
     }
       where
-        behind : List Candidate
-        behind = fixedOnes (counting (suc order) (limit xs - (order + 1)))
+        others : List Candidate
+        others = fixedOnes (counting (suc order) (limit xs - (order + 1)))
 
     pub end : limit xs ≤ order → best ≡ choiceOf w xs
     unfolding counting fixedOnes fewestOf

@@ -11,7 +11,7 @@ use Rattle.rfc9639.specs.Coding.{fewestOf}
 use Rattle.choice.specs.declared.Choice.{Choice}
 use Rattle.choice.specs.Private.{weight, offers}
 
--- The whole answer is the answer from here: k parameters are judged.
+-- k parameters are judged: choosing among the rest gives the whole answer.
 pub record Offered (order head count : ℕ) (qs : List ℕ) (best₀ best : Choice) (k : ℕ) : Type 0 where
   pub within : k ≤ length qs
   pub same : fewestOf weight best₀ (offers order head count 0 qs) ≡ fewestOf weight best (offers order head count k (drop k qs))

@@ -1,4 +1,4 @@
--- What each candidate has for bits, as the functions count them. Assumes nothing.
+-- The bits of each candidate, as the functions count them. Assumes nothing.
 use Prim.Native.Nat.{ℕ, zero, suc, _+_, _*_, _/_, _^_, _≤_, min}
 use native.Mathlib.Omega.{arith}
 use mathlib.Core.Path.{_≡_, refl, ap, ap₂, sym, _∙_}
@@ -12,20 +12,20 @@ use Rattle.rfc9639.specs.declared.Candidate.the-variants.{Constant, Verbatim, F
 use Rattle.rfc9639.specs.Coding.{fold, fixedResiduals, uniform, counting, fewestOf, cost}
 use Rattle.rfc9639.proofs.Costs.{quotients, cost-constant, cost-verbatim, cost-fixed}
 use Rattle.choice.specs.declared.Choice.{Choice}
-use Rattle.choice.specs.Private.{priced, weight, plainestOf, sumBy, sumsOf, offers}
+use Rattle.choice.specs.Private.{priced, pricedFixed, weight, plainestOf, sumBy, sumsOf, offers}
 
 -- a candidate with bits that are counted elsewhere
 abbrev pub made : Candidate → ℕ → Choice
 made c b = record { candidate = c; bits = b }
 
--- the definition's own word for such a sum
+-- such a sum is `quotients`
 sum-quotients : (k : ℕ) (rs : List ℤ) → sumBy k rs ≡ quotients k rs
 unfolding sumBy
 sum-quotients k [] = refl
 sum-quotients k (r ∷ rs) = ap (λ n. fold r / 2 ^ k + n) (sum-quotients k rs)
 
 module _ (w : ℕ) (xs : List ℤ) where
-  -- a choice among candidates with their bits is one among candidates
+  -- choosing among candidates with their bits is choosing among candidates
   pub fewest-priced : (c : Candidate) (cs : List Candidate) → fewestOf weight (priced w xs c) (map (priced w xs) cs) ≡ priced w xs (fewestOf (cost w xs) c cs)
   unfolding fewestOf priced
   fewest-priced c [] = refl
@@ -37,7 +37,7 @@ module _ (w : ℕ) (xs : List ℤ) where
       go true = refl
       go false = refl
 
-  -- what a fixed predictor offers, by the sums of its quotients
+  -- a fixed predictor's offers, by the sums of its quotients
   offers-from : (order k n : ℕ) → order ≤ length xs
       → offers order (18 + order * w) (length (fixedResiduals order xs)) k (map (λ i. sumBy i (fixedResiduals order xs)) (counting k n))
       ≡ map (priced w xs) (map (Fixed order) (counting k n))
@@ -49,20 +49,20 @@ module _ (w : ℕ) (xs : List ℤ) where
       (offers-from order (suc k) n h)
 
   offers-priced : (order : ℕ) → order ≤ length xs
-      → offers order (18 + order * w) (length (fixedResiduals order xs)) 0 (sumsOf (fixedResiduals order xs)) ≡ map (priced w xs) (map (Fixed order) (counting 0 15))
+      → offers order (18 + order * w) (length (fixedResiduals order xs)) 0 (sumsOf (fixedResiduals order xs)) ≡ pricedFixed w xs order
   unfolding sumsOf
   offers-priced order h = offers-from order 0 15 h
 
-  -- a fixed predictor's choice, as the function has it
+  -- a fixed predictor's choice, as the code has it
   pub offered : {order head count : ℕ} {qs : List ℕ} {r : Choice} (best : Choice) → order ≤ length xs
       → head ≡ 18 + order * w → count ≡ length (fixedResiduals order xs) → qs ≡ sumsOf (fixedResiduals order xs)
-      → r ≡ fewestOf weight best (offers order head count 0 qs) → r ≡ fewestOf weight best (map (priced w xs) (map (Fixed order) (counting 0 15)))
+      → r ≡ fewestOf weight best (offers order head count 0 qs) → r ≡ fewestOf weight best (pricedFixed w xs order)
   offered {order} {head} {count} {qs} best h eh ec eq e =
       e ∙ ap₂ (λ m n. fewestOf weight best (offers order m n 0 qs)) eh ec
       ∙ ap (λ (l : List ℕ). fewestOf weight best (offers order (18 + order * w) (length (fixedResiduals order xs)) 0 l)) eq
       ∙ ap (fewestOf weight best) (offers-priced order h)
 
-  -- ---- what predicts nothing, as the function has it
+  -- ---- the choice without prediction, as the code has it
 
   module _ {b : ℕ} (e : b ≡ 8 + length xs * w) where
     verbatim : made Verbatim b ≡ priced w xs Verbatim

@@ -1,4 +1,4 @@
--- No count of bits leaves 64 bits: there are fewer than 2 ^ 16 samples, and a width is a u32. Assumes nothing.
+-- Sizes: no count of bits exceeds 64 bits, with fewer than 2 ^ 16 samples of a u32's width. Assumes nothing.
 use Prim.Native.Nat.{ℕ, _*_, _^_, _≤_, _<_}
 use native.Mathlib.Nat.{le-of-lt, mul-le-mul}
 

@@ -1,4 +1,4 @@
--- The sums of the quotients, as residuals come in one by one. Assumes nothing.
+-- Sums of quotients: residuals added one by one. Assumes nothing.
 use Prim.Native.Nat.{ℕ, zero, suc, _+_, _*_, _/_, _^_, _≤_, _<_}
 use native.Mathlib.Nat.{add-assoc}
 use native.Mathlib.Numerals.{add-one}
@@ -13,9 +13,9 @@ use Rattle.rfc9639.specs.Coding.{fold, counting}
 use Rattle.lanes.proofs.Missing.{fold-lt}
 use Rattle.choice.specs.Private.{sumBy, sumsOf, joined, Under}
 
--- ---- one residual comes in, sum by sum
+-- ---- one residual is added, sum by sum
 
--- the first k sums have it
+-- the first k sums include it
 pub record Joining (f : ℕ) (qs₀ qs : List ℕ) (k : ℕ) : Type 0 where
   pub within : k ≤ length qs
   pub long : length qs ≡ length qs₀
@@ -73,7 +73,7 @@ pub length-sums : (rs : List ℤ) → length (sumsOf rs) ≡ 15
 unfolding sumsOf counting
 length-sums rs = refl
 
--- j residuals are in
+-- j residuals are added
 pub record Tallied (rs : List ℤ) (qs : List ℕ) (j : ℕ) : Type 0 where
   pub within : j ≤ length rs
   pub small : Under (1 + j * 2 ^ 39) qs

@@ -1,4 +1,4 @@
--- Samples compared with the first, one by one. Assumes nothing.
+-- Equal samples: each is compared with the first. Assumes nothing.
 use Prim.Native.Nat.{ℕ, suc, _+_, _≤_, _<_}
 use native.Mathlib.Numerals.{add-one}
 use mathlib.Core.Path.{_≡_, refl, ap, sym, _∙_}
@@ -13,7 +13,7 @@ use mir.Val.{SFits, toZ, ofZ}
 use mir.Facts.{toZ-ofZ}
 use Rattle.rfc9639.specs.Coding.{same, uniform}
 
--- one sample behind the first
+-- the second sample is compared with the first
 uniform-cons : (x y : ℤ) (ys : List ℤ) → uniform (x ∷ y ∷ ys) ≡ same x y && uniform (x ∷ ys)
 unfolding uniform
 uniform-cons x y ys = refl
@@ -34,7 +34,7 @@ same-other (negsuc a) (negsuc b) h = ne-eqb a b (λ e. h (ap negsuc e))
 pub bits-tell : {x y : ℤ} → SFits w64 x → SFits w64 y → ofZ w64 x ≡ ofZ w64 y → x ≡ y
 bits-tell f g e = sym (toZ-ofZ f) ∙ ap (toZ w64) e ∙ toZ-ofZ g
 
--- the samples before i are like the first
+-- the samples before i equal the first
 pub record Alike (xs : List ℤ) (i : ℕ) : Type 0 where
   pub from : uniform xs ≡ uniform (getD xs 0 (pos 0) ∷ drop i xs)
 

@@ -1,10 +1,10 @@
--- What the choice of a channel comes to.
+-- The choice for a channel, by the definition.
 use Prim.Native.Nat.{ℕ}
 use mathlib.Core.List.{List}
 use lib.IntN.{ℤ}
 use Rattle.rfc9639.specs.Coding.{cost, chosen}
 use Rattle.choice.specs.declared.Choice.{Choice}
 
--- the candidate that is taken, and its bits
+-- the candidate chosen, with its bits
 unfoldable pub choiceOf : ℕ → List ℤ → Choice
 choiceOf w xs = record { candidate = chosen w xs; bits = cost w xs (chosen w xs) }

@@ -1,3 +1,3 @@
--- What the answer of this crate means, and what its pieces come to.
+-- What this crate's answer means, and what its private functions answer.
 pub mod Choices
 pub mod Private

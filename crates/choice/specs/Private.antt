@@ -1,5 +1,5 @@
--- What the pieces of the choice come to: the sums of the quotients by each parameter, and the choices that they make. Only
--- contracts of private functions name it, so nobody has to believe it.
+-- The pieces of the choice: the sums of the quotients for each parameter, and the choices made from them. Only contracts of
+-- private functions name it, so nobody has to believe it.
 use Prim.Native.Nat.{ℕ, suc, _+_, _*_, _/_, _^_, _<_}
 use mathlib.Core.List.{List, [], _∷_, map}
 use lib.IntN.{ℤ}
@@ -14,27 +14,31 @@ use Rattle.choice.specs.declared.Choice.{Choice}
 unfoldable pub priced : ℕ → List ℤ → Candidate → Choice
 priced w xs c = record { candidate = c; bits = cost w xs c }
 
+-- a fixed predictor with each of its parameters, and their bits
+abbrev pub pricedFixed : ℕ → List ℤ → ℕ → List Choice
+pricedFixed w xs order = map (priced w xs) (map (Fixed order) (counting 0 15))
+
 -- a choice's bits
 abbrev pub weight : Choice → ℕ
 weight c = c .bits
 
--- the best of the candidates that predict nothing
+-- the best of the candidates without prediction
 unfoldable pub plainestOf : ℕ → List ℤ → Choice
 plainestOf w xs =
     if uniform xs
     then fewestOf weight (priced w xs Constant) (priced w xs Verbatim ∷ [])
     else priced w xs Verbatim
 
--- the sum of the residuals' quotients by the parameter k
+-- the sum of the residuals' quotients for the parameter k
 unfoldable pub sumBy : ℕ → List ℤ → ℕ
 sumBy k [] = 0
 sumBy k (r ∷ rs) = fold r / 2 ^ k + sumBy k rs
 
--- by each of the parameters 0 to 14
+-- one for each of the parameters 0 to 14
 unfoldable pub sumsOf : List ℤ → List ℕ
 sumsOf rs = map (λ k. sumBy k rs) (counting 0 15)
 
--- a folded residual comes into such sums, of which the first is by the parameter k
+-- the quotients of a folded residual added to such sums, the first of which is for the parameter k
 unfoldable pub joined : ℕ → ℕ → List ℕ → List ℕ
 joined f k [] = []
 joined f k (q ∷ qs) = (q + f / 2 ^ k) ∷ joined f (suc k) qs
@@ -43,7 +47,7 @@ joined f k (q ∷ qs) = (q + f / 2 ^ k) ∷ joined f (suc k) qs
 abbrev pub Under : ℕ → List ℕ → Type 0
 Under b qs = (k : ℕ) → getD qs k 0 < b
 
--- a fixed predictor with the parameters from k on, by the sums of its quotients
+-- a fixed predictor with the parameters from k on, given the sums of its quotients
 unfoldable pub offers : ℕ → ℕ → ℕ → ℕ → List ℕ → List Choice
 offers order head count k [] = []
 offers order head count k (q ∷ qs) =

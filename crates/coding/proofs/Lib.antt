@@ -1,3 +1,3 @@
--- Laws of what is written, for the functions that write it.
+-- The pieces of a subframe, and that writing one has one outcome.
 pub mod Pieces
 pub mod Outcome

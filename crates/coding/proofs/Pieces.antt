@@ -1,4 +1,4 @@
--- The pieces of a subframe, each as the code has it. Assumes nothing.
+-- The pieces of a subframe, as the code writes them. Assumes nothing.
 use Prim.Native.Nat.{ℕ, _/_, _^_, _≤_, _<_}
 use mathlib.Core.Path.{_≡_, ap, sym, _∙_}
 use mathlib.Core.List.{List, [], _++_}
@@ -15,13 +15,14 @@ use Rattle.rfc9639.specs.declared.Candidate.the-variants.{Constant, Verbatim, F
 use Rattle.rfc9639.specs.Integers.{low}
 use Rattle.rfc9639.specs.Coding.{fold, riceBits, plain, subframeHead, codedAs}
 use Rattle.coding.specs.Ways.{writtenAs}
+use Rattle.coding.specs.Private.{headAndPlain}
 
 -- ---- a sample
 
 abbrev pub sampleBits : ℕ → ℤ → List ℕ
 sampleBits w x = bitsOf w (low w x)
 
--- ---- a residual, as the code has its two parts: a signed value is handed on by its bits
+-- ---- a residual, in two parts (the code passes a signed value by its bits)
 
 pub rice-is : (k : ℕ) {m q : ℕ} {r : ℤ} → SFits w64 r → m ≡ fold (toZ w64 (ofZ w64 r)) → q ≡ m / 2 ^ k → unary q ++ bitsOf k m ≡ riceBits k r
 unfolding riceBits
@@ -39,11 +40,11 @@ module _ (c : Candidate) (w : ℕ) (xs : List ℤ) where
     unfolding writtenAs
     written-some = rw (le-leb w 64 h)
 
-    pub written-constant : c ≡ Constant → subframeHead 0 ++ plain w (take 1 xs) ≡ writtenAs c w xs
+    pub written-constant : c ≡ Constant → headAndPlain 0 w 1 xs ≡ writtenAs c w xs
     unfolding codedAs
     written-constant e = sym (written-some ∙ ap (λ x. codedAs x w xs) e)
 
-    pub written-verbatim : {m : ℕ} → c ≡ Verbatim → m ≡ length xs → subframeHead 1 ++ plain w (take m xs) ≡ writtenAs c w xs
+    pub written-verbatim : {m : ℕ} → c ≡ Verbatim → m ≡ length xs → headAndPlain 1 w m xs ≡ writtenAs c w xs
     unfolding codedAs
     written-verbatim e l = ap (λ (l : List ℤ). subframeHead 1 ++ plain w l) (ap (λ n. take n xs) l ∙ take-length xs) ∙ sym (written-some ∙ ap (λ x. codedAs x w xs) e)
 

@@ -1,2 +1,3 @@
--- What is written.
+-- What is written of a channel, and what the private functions write.
 pub mod Ways
+pub mod Private

@@ -1,4 +1,4 @@
--- What is written of a channel.
+-- The bits that are written of a channel.
 use Prim.Native.Nat.{ℕ}
 use mathlib.Core.List.{List, []}
 use lib.Dec.{leb}
@@ -7,6 +7,6 @@ use Rattle.reading.specs.Reading.{if_then_else_}
 use Rattle.rfc9639.specs.declared.Candidate.{Candidate}
 use Rattle.rfc9639.specs.Coding.{codedAs}
 
--- A sample has at most 64 bits: of a wider one nothing is written.
+-- Samples have at most 64 bits: nothing is written of wider ones.
 unfoldable pub writtenAs : Candidate → ℕ → List ℤ → List ℕ
 writtenAs c w xs = if leb w 64 then codedAs c w xs else []

@@ -1,4 +1,4 @@
--- Laws for callers: what each lane stores, and what prediction misses.
+-- What each lane stores, residuals and predictions, and that each public function has one outcome.
 pub mod Storing
 pub mod Missing
 pub mod Predicting

@@ -1,5 +1,4 @@
--- What prediction misses, by index: each residual from its sample and the samples before it, the latest first. Assumes
--- nothing.
+-- Residuals by index: each from its sample and the samples before it, the latest first. Assumes nothing.
 use Prim.Native.Nat.{ℕ, zero, suc, _+_, _-_, _^_, _≤_, _<_}
 use native.Mathlib.Nat.{div-one}
 use native.Mathlib.Omega.{arith}
@@ -12,9 +11,9 @@ use Rattle.rfc9639.specs.Integers.{shiftDown}
 use Rattle.rfc9639.specs.Prediction.{dot, fixedCoefficients}
 use Rattle.rfc9639.specs.Coding.{fold, residuals, fixedResiduals}
 use Rattle.rfc9639.proofs.Lengths.{length-fixedResiduals}
-use Rattle.lanes.specs.Private.{predictedAt}
+use Rattle.lanes.specs.Private.{predictedAt, residualAt}
 
--- ---- the residuals of a row of coefficients
+-- ---- the residuals of any coefficients
 
 residuals-at : (cs : List ℤ) (shift : ℕ) (before xs : List ℤ) (j : ℕ) → j < length xs
     → getD (residuals cs shift before xs) j (pos 0) ≡ getD xs j (pos 0) -ℤ shiftDown shift (dot (pos 0) cs (reverseAux (take j xs) before))
@@ -23,31 +22,25 @@ residuals-at cs shift before [] j h = absurd (omega arith)
 residuals-at cs shift before (x ∷ xs) zero h = refl
 residuals-at cs shift before (x ∷ xs) (suc j) h = residuals-at cs shift (x ∷ before) xs j (omega arith)
 
-pub residual-at : (cs xs : List ℤ) (order j : ℕ) → order + j < length xs
-    → getD (residuals cs 0 (reverse (take order xs)) (drop order xs)) j (pos 0)
-    ≡ getD xs (order + j) (pos 0) -ℤ shiftDown 0 (dot (pos 0) cs (reverse (take (order + j) xs)))
-residual-at cs xs order j h =
-    residuals-at cs 0 (reverse (take order xs)) (drop order xs) j (omega (arith, length-drop order xs))
-    ∙ ap₂ (λ (x : ℤ) (before : List ℤ). x -ℤ shiftDown 0 (dot (pos 0) cs before)) (getD-drop order xs j (pos 0))
-    (sym (reverseAux-append (take order xs) (take j (drop order xs)) []) ∙ ap (λ (l : List ℤ). reverse l) (sym (take-add order j xs)))
-
--- ---- those of a fixed predictor
+-- ---- the residuals of a fixed predictor
 
 shift-none : (z : ℤ) → shiftDown 0 z ≡ z
 unfolding shiftDown
 shift-none (pos n) = ap pos (div-one n)
 shift-none (negsuc n) = ap negsuc (div-one n)
 
-pub fixed-at : (order : ℕ) (xs : List ℤ) (j : ℕ) → order + j < length xs
-    → getD (fixedResiduals order xs) j (pos 0) ≡ getD xs (order + j) (pos 0) -ℤ predictedAt order xs (order + j)
+pub fixed-at : (order : ℕ) (xs : List ℤ) (j : ℕ) → order + j < length xs → getD (fixedResiduals order xs) j (pos 0) ≡ residualAt order xs (order + j)
 unfolding fixedResiduals predictedAt
 fixed-at order xs j h =
-    residual-at (fixedCoefficients order) xs order j h ∙ ap (λ (z : ℤ). getD xs (order + j) (pos 0) -ℤ z) (shift-none (predictedAt order xs (order + j)))
+    residuals-at (fixedCoefficients order) 0 (reverse (take order xs)) (drop order xs) j (omega (arith, length-drop order xs))
+    ∙ ap₂ (λ (x : ℤ) (before : List ℤ). x -ℤ shiftDown 0 (dot (pos 0) (fixedCoefficients order) before)) (getD-drop order xs j (pos 0))
+    (sym (reverseAux-append (take order xs) (take j (drop order xs)) []) ∙ ap (λ (l : List ℤ). reverse l) (sym (take-add order j xs)))
+    ∙ ap (λ (z : ℤ). getD xs (order + j) (pos 0) -ℤ z) (shift-none (predictedAt order xs (order + j)))
 
 pub fixed-out : (order : ℕ) (xs : List ℤ) (j : ℕ) → length xs - order ≤ j → getD (fixedResiduals order xs) j (pos 0) ≡ pos 0
 fixed-out order xs j h = List·getD-eq-default (fixedResiduals order xs) (pos 0) (rw length-fixedResiduals h)
 
--- the folded form of a residual, by the size that `residual` promises
+-- a folded residual, by the size that `residual` promises
 pub fold-lt : (z : ℤ) → natAbs z < 2 ^ 38 → fold z < 2 ^ 39
 unfolding fold
 fold-lt (pos n) h = omega arith

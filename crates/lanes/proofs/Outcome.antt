@@ -11,6 +11,6 @@ stored-len-one κs args r r′ left left′ p q = (one p q, refl)
 pub stored-sample-one : OneOutcome stored_sample.ended stored_sample.Reads.Learnt
 stored-sample-one κs args r r′ left left′ p q = (one p q, refl)
 
--- what it is settles it; its size is a bound besides
+-- its value decides; the bound on its size adds nothing
 pub residual-one : OneOutcome residual.ended residual.Reads.Learnt
 residual-one κs args r r′ left left′ p q = (one (p .0) (q .0), refl)

@@ -1,5 +1,4 @@
--- A prediction as the code adds it up: one product after the other, exact at 64 bits. A signed value is handed on by its
--- bits. Assumes nothing.
+-- Fixed predictions as the code adds them up: each product and sum is exact at 64 bits. Assumes nothing.
 use Prim.Native.Nat.{ℕ, suc, _+_, _-_, _*_, _^_, _≤_, _<_}
 use native.Mathlib.Nat.{mul-le-mul, sub-zero}
 use native.Mathlib.Omega.{arith}
@@ -17,7 +16,7 @@ use Rattle.number.proofs.Sizes.{sfits-of-abs, abs-add, abs-mul, abs-neg}
 use Rattle.lanes.specs.Private.{predictedAt}
 use Rattle.lanes.proofs.Missing.{latest}
 
--- ---- one product more
+-- ---- one product more (the code passes a signed value by its bits)
 
 module _ {sum c x : ℤ} (fs : SFits w64 sum) (fc : SFits w64 c) (fx : SFits w64 x) (hs : natAbs sum ≤ 18 * 2 ^ 32) (hc : natAbs c ≤ 6)
     (hx : natAbs x ≤ 2 ^ 32) where
@@ -43,32 +42,33 @@ module _ {sum c x : ℤ} (fs : SFits w64 sum) (fc : SFits w64 c) (fx : SFits w64
       let e = toZ-ofZ sum-fits ∙ ap₂ (λ (a b : ℤ). a +ℤ b) (toZ-ofZ fs) product in
       (e ∙ ap (λ (z : ℤ). sum +ℤ c *ℤ z) d, rw e abs-sum)
 
--- ---- k products of sample i's prediction are added up in acc, and those of the coefficients `rest` are to come
+-- ---- the prediction of sample i: k products are added up in acc, and those of the coefficients `rest` are to come
 
-pub record Tapped (cs rest xs : List ℤ) (i k : ℕ) (acc : ℤ) : Type 0 where
-  pub same : dot (pos 0) cs (reverse (take i xs)) ≡ dot acc rest (reverse (take (i - k) xs))
+pub record PredictionSoFar (order : ℕ) (rest xs : List ℤ) (i k : ℕ) (acc : ℤ) : Type 0 where
+  pub same : predictedAt order xs i ≡ dot acc rest (reverse (take (i - k) xs))
   pub bound : natAbs acc ≤ k * (6 * 2 ^ 32)
 
-pub begin : (cs xs : List ℤ) (i : ℕ) → Tapped cs cs xs i 0 (pos 0)
-begin cs xs i = record { same = ap (λ n. dot (pos 0) cs (reverse (take n xs))) (sym (sub-zero i)); bound = omega arith }
+pub begin : (order : ℕ) (xs : List ℤ) (i : ℕ) → PredictionSoFar order (fixedCoefficients order) xs i 0 (pos 0)
+unfolding predictedAt
+begin order xs i = record { same = ap (λ n. dot (pos 0) (fixedCoefficients order) (reverse (take n xs))) (sym (sub-zero i)); bound = omega arith }
 
-pub step : {cs rest xs : List ℤ} {c : ℤ} {i k : ℕ} {acc : ℤ} → Tapped cs (c ∷ rest) xs i k acc → k < i → i ≤ length xs → {r : ℤ} → SFits w64 r
-    → (r ≡ acc +ℤ c *ℤ getD xs (i - suc k) (pos 0)) × (natAbs r ≤ natAbs acc + 6 * 2 ^ 32) → Tapped cs rest xs i (suc k) (bits64 r)
-unfolding dot
-step {rest = rest} {xs = xs} {c = c} {i = i} {k = k} {acc = acc} inv h l f e = record {
-  same =
-      inv .same ∙ ap (dot acc (c ∷ rest)) (latest xs i k h l)
-      ∙ ap (λ (a : ℤ). dot a rest (reverse (take (i - suc k) xs))) (sym (e .0) ∙ sym (toZ-ofZ f));
-  bound = rw (toZ-ofZ f) (omega (arith, inv .bound, e .1));
-}
+module _ {order : ℕ} {xs : List ℤ} {i k : ℕ} {acc : ℤ} where
+  pub step : {c : ℤ} {rest : List ℤ} → PredictionSoFar order (c ∷ rest) xs i k acc → k < i → i ≤ length xs → {r : ℤ} → SFits w64 r
+      → (r ≡ acc +ℤ c *ℤ getD xs (i - suc k) (pos 0)) × (natAbs r ≤ natAbs acc + 6 * 2 ^ 32) → PredictionSoFar order rest xs i (suc k) (bits64 r)
+  unfolding dot
+  step {c} {rest} inv h l f e = record {
+    same =
+        inv .same ∙ ap (dot acc (c ∷ rest)) (latest xs i k h l)
+        ∙ ap (λ (a : ℤ). dot a rest (reverse (take (i - suc k) xs))) (sym (e .0) ∙ sym (toZ-ofZ f));
+    bound = rw (toZ-ofZ f) (omega (arith, inv .bound, e .1));
+  }
 
-module _ {cs rest xs : List ℤ} {i k : ℕ} {acc : ℤ} (inv : Tapped cs rest xs i k acc) where
-  pub room : k ≤ 3 → natAbs acc ≤ 18 * 2 ^ 32
-  room h = omega (arith, inv .bound)
+  pub room : {rest : List ℤ} → PredictionSoFar order rest xs i k acc → k ≤ 3 → natAbs acc ≤ 18 * 2 ^ 32
+  room inv h = omega (arith, inv .bound)
 
-pub end : {cs xs : List ℤ} {i k : ℕ} {acc : ℤ} → Tapped cs [] xs i k acc → k ≤ 4 → (acc ≡ dot (pos 0) cs (reverse (take i xs))) × (natAbs acc ≤ 24 * 2 ^ 32)
-unfolding dot
-end inv h = (sym (inv .same), omega (arith, inv .bound))
+  pub end : PredictionSoFar order [] xs i k acc → k ≤ 4 → (acc ≡ predictedAt order xs i) × (natAbs acc ≤ 24 * 2 ^ 32)
+  unfolding dot
+  end inv h = (sym (inv .same), omega (arith, inv .bound))
 
 -- ---- the coefficients of each order
 
@@ -76,17 +76,17 @@ pub predicted-none : (xs : List ℤ) (i : ℕ) → pos 0 ≡ predictedAt 0 xs i
 unfolding predictedAt fixedCoefficients dot
 predicted-none xs i = refl
 
--- an order above 4 has the row of 4
+-- an order above 4 has the coefficients of order 4
 pub predicted-above : {order : ℕ} (xs : List ℤ) (i : ℕ) → (order ≡ 0 → ⊥) → (order ≡ 1 → ⊥) → (order ≡ 2 → ⊥) → (order ≡ 3 → ⊥)
     → predictedAt 4 xs i ≡ predictedAt order xs i
 unfolding predictedAt fixedCoefficients
 predicted-above xs i a b c d = rw (ne-eqb _ _ a, ne-eqb _ _ b, ne-eqb _ _ c, ne-eqb _ _ d)
 
--- an answer for one order serves another of the same row
+-- an answer for one order serves another with the same coefficients
 pub carried : {r a b : ℤ} → SFits w64 r → (r ≡ a) × (natAbs r ≤ 24 * 2 ^ 32) → a ≡ b → (bits64 r ≡ b) × (natAbs (bits64 r) ≤ 24 * 2 ^ 32)
 carried f e d = rw (toZ-ofZ f) (e .0 ∙ d, e .1)
 
--- ---- a difference of a sample and a prediction
+-- ---- a sample less its prediction
 
 module _ {x y : ℤ} (fx : SFits w64 x) (fy : SFits w64 y) (hx : natAbs x ≤ 2 ^ 32) (hy : natAbs y ≤ 24 * 2 ^ 32) where
   abs-missed : natAbs (x -ℤ y) < 2 ^ 38

@@ -15,9 +15,10 @@ use Rattle.rfc9639.specs.declared.Lane.the-variants.{Channel, Mid, Side}
 use Rattle.rfc9639.specs.Stereo.{pairwise}
 use Rattle.rfc9639.specs.Write.{channel, stored, midOf, sideOf}
 use Rattle.rfc9639.proofs.Lengths.{length-pairwise, length-channel as channel-long}
-use Rattle.rfc9639.proofs.Widths.{Fits, of-sfits, fits-add, fits-sub}
+use Rattle.rfc9639.proofs.Widths.{of-sfits}
 use Rattle.rfc9639.proofs.Machine.{widened}
 use Rattle.number.proofs.Sizes.{abs-of-fits, abs-shiftDown}
+use Rattle.number.proofs.ExactSums.{sum-fits-33, difference-fits-33}
 
 -- where channel c starts
 pub start-lt : (c n : ℕ) → c < 2 ^ 32 → n < 2 ^ 16 → c * n < 2 ^ 64
@@ -63,25 +64,15 @@ module _ (n : ℕ) (xs : List ℤ) {lane : Lane} where
 
 -- ---- how large a sample is
 
-pub side-fits : {a b : ℤ} → SFits w32 a → SFits w32 b → Fits 33 (sideOf a b)
-unfolding sideOf
-side-fits f g = fits-sub {w = 32} (omega arith) (of-sfits f) (of-sfits g)
-
-unfoldable pub sumOf : ℤ → ℤ → ℤ
-sumOf a b = a +ℤ b
-
-pub sum-fits : {a b : ℤ} → SFits w32 a → SFits w32 b → Fits 33 (sumOf a b)
-unfolding sumOf
-sum-fits f g = fits-add {w = 32} (omega arith) (of-sfits f) (of-sfits g)
-
 pub side-abs : (a b : ℤ) → SFits w32 a → SFits w32 b → natAbs (sideOf a b) ≤ 2 ^ 32
-side-abs a b f g = abs-of-fits (side-fits f g)
+unfolding sideOf
+side-abs a b f g = abs-of-fits (difference-fits-33 f g)
 
 pub mid-abs : (a b : ℤ) → SFits w32 a → SFits w32 b → natAbs (midOf a b) ≤ 2 ^ 32
-unfolding midOf sumOf
-mid-abs a b f g = omega (arith, abs-shiftDown 1 (sumOf a b), abs-of-fits (sum-fits f g))
+unfolding midOf
+mid-abs a b f g = omega (arith, abs-shiftDown 1 (a +ℤ b), abs-of-fits (sum-fits-33 f g))
 
--- ---- a sample of a lane, as the function has it: a signed value is handed on by its bits
+-- ---- a sample of a lane, as the code has it (a signed value goes by its bits)
 
 abbrev bits32 : ℤ → ℤ
 bits32 z = toZ w32 (ofZ w32 z)
@@ -102,7 +93,7 @@ module _ {n : ℕ} {xs : List ℤ} {c : ℕ} {l : List ℤ} (e : Single n xs c l
         rw (widened f)
         (sym (ap (λ (t : List ℤ). getD t i (pos 0)) (e .is) ∙ channel-getD n xs c i (omega (arith, length-channel))), omega (arith, abs-of-fits (of-sfits f)))
 
--- of the first two channels there are as many pairs as the second has
+-- there are as many pairs as the second channel has samples
 module _ {f : ℤ → ℤ → ℤ} {n : ℕ} {xs l : List ℤ} (e : Paired f n xs l) where
   pub length-both : length l ≡ min n (length xs - 1 * n)
   length-both =
@@ -123,7 +114,7 @@ module _ {f : ℤ → ℤ → ℤ} {n : ℕ} {xs l : List ℤ} (e : Paired f n x
         at c = channel-getD n xs c i (omega (arith, length-both))
 
     pub both-sample : ((a b : ℤ) → SFits w32 a → SFits w32 b → natAbs (f a b) ≤ 2 ^ 32)
-        → SFits w32 (getD xs i (pos 0)) → SFits w32 (getD xs (n + i) (pos 0))
-        → {r : ℤ} → SFits w64 r → r ≡ f (bits32 (getD xs i (pos 0))) (bits32 (getD xs (n + i) (pos 0))) → Sample l i r
-    both-sample small fx fy g d =
-        rw (toZ-ofZ g, d, toZ-ofZ fx, toZ-ofZ fy) (sym both-at, small _ _ fx fy)
+        → {a b : ℤ} → SFits w32 a → SFits w32 b → (a ≡ getD xs i (pos 0)) × (b ≡ getD xs (n + i) (pos 0))
+        → {r : ℤ} → SFits w64 r → r ≡ f (bits32 a) (bits32 b) → Sample l i r
+    both-sample small fa fb e g d =
+        rw (toZ-ofZ g, d, toZ-ofZ fa, toZ-ofZ fb) (ap₂ f (e .0) (e .1) ∙ sym both-at, small _ _ fa fb)

@@ -1,2 +1,3 @@
--- What the private functions of this crate answer.
+-- What a source means, and what the private functions of this crate answer.
+pub mod Sources
 pub mod Private

@@ -1,3 +1,4 @@
--- Laws for callers: sizes of sums and products.
+-- Sizes of sums and products, for callers, and that each function has one outcome.
 pub mod Sizes
+pub mod ExactSums
 pub mod Outcome

@@ -1,5 +1,4 @@
--- Sizes of sums and products in ℤ, and the sum of at most 32 products, which is exact at 64 bits: coefficients of 16 bits,
--- samples of 33 (RFC 9639 section 9.2.6; a side channel is one bit wider than 32). Assumes nothing.
+-- Sums of products: at most 32 coefficients of 16 bits with samples of 33 are exact at 64 bits. Assumes nothing.
 use Prim.Native.Nat.{ℕ, zero, suc, _+_, _*_, _^_, _≤_, _<_}
 use native.Mathlib.Nat.{le-of-lt, mul-le-mul}
 use native.Mathlib.Numerals.{add-one}
@@ -25,7 +24,7 @@ sfits-of-abs z h = to-sfits (fits-of-abs 64 z h)
 pub add-fits : (a b : ℤ) → natAbs a < 2 ^ 62 → natAbs b ≤ 2 ^ 62 → SFits w64 (a +ℤ b)
 add-fits a b h k = sfits-of-abs (a +ℤ b) (omega (arith, abs-add a b))
 
--- ---- one product, and a sum with it. A sample is of at most 33 bits.
+-- ---- one product, and a sum with it. A sample has at most 33 bits: a side channel is one bit wider than 32.
 
 module _ (c x : ℤ) (h : natAbs c < 2 ^ 15) (l : Fits 33 x) where
   pub abs-product : natAbs (c *ℤ x) ≤ 2 ^ 47
@@ -40,11 +39,11 @@ module _ (c x : ℤ) (h : natAbs c < 2 ^ 15) (l : Fits 33 x) where
   pub mul-add-fits : (a : ℤ) → natAbs a < 2 ^ 62 → SFits w64 (a +ℤ c *ℤ x)
   mul-add-fits a k = sfits-of-abs (a +ℤ c *ℤ x) (omega (arith, abs-mul-add a))
 
--- an i32 is of at most 33 bits
+-- an i32 has at most 33 bits
 pub sample-fits : {z : ℤ} → SFits w32 z → Fits 33 z
 sample-fits f = fits-mono {w = 32} {w′ = 33} (omega arith) (of-sfits f)
 
--- ---- a loop over the products. A signed local is its bits.
+-- ---- a loop over the products (the code keeps a signed value by its bits)
 
 small-at : (b : ℕ) (l : List ℤ) (i : ℕ) → i < length l → Small b l → natAbs (getD l i (pos 0)) < b
 small-at b [] i h s = absurd (omega arith)

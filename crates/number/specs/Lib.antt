@@ -1,2 +1,2 @@
--- What callers ask of their numbers where rfc9639 has no word for it.
+-- What contracts of callers name and rfc9639 does not define.
 pub mod Private

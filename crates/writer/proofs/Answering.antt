@@ -1,4 +1,4 @@
--- Which answer the definition gives, by its three tests. Assumes nothing.
+-- The definition's answer, by its three tests. Assumes nothing.
 use Prim.Native.Nat.{ℕ, _≤_, _<_}
 use native.Mathlib.Omega.{arith}
 use mathlib.Core.Path.{_≡_, refl, ap₂}
@@ -10,12 +10,13 @@ use lib.ListN.{length, drop}
 use Rattle.rfc9639.specs.declared.FrameSetting.{FrameSetting}
 use Rattle.rfc9639.proofs.Allowed.{allowed-facts}
 use Rattle.rfc9639.specs.Write.{frameBytes, allowed, allFit, Written, unwritten, write}
+use Rattle.writer.specs.Private.{InRange}
 
--- what the parts ask of the settings
+-- what the private functions ask of the settings
 pub bits-between : (set : FrameSetting) (count : ℕ) → allowed set count ≡ true → (1 ≤ set .bits) × (set .bits ≤ 32)
 bits-between set count e = let a = allowed-facts set count e in (omega (arith, a .depth .some), omega (arith, a .depth .most))
 
-pub in-range : (set : FrameSetting) (count : ℕ) → allowed set count ≡ true → (set .channels ≤ 10) × (set .bits ≤ 24) × (set .size ≤ 65535)
+pub in-range : (set : FrameSetting) (count : ℕ) → allowed set count ≡ true → InRange set
 in-range set count e = let a = allowed-facts set count e in (a .channels, a .depth .most, a .most)
 
 module _ (set : FrameSetting) (xs : List ℤ) (out : List ℕ) where

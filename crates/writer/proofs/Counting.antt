@@ -1,4 +1,4 @@
--- The bits of the subframes, added up one after the other. Assumes nothing.
+-- The bits of the subframes, added up one by one. Assumes nothing.
 use Prim.Native.Nat.{ℕ, _+_, _*_, _^_, _≤_}
 use native.Mathlib.Nat.{add-mul, mul-le-mul}
 use native.Mathlib.Omega.{arith}
@@ -21,7 +21,7 @@ use Rattle.choice.specs.Choices.{choiceOf}
 use Rattle.writer.specs.Private.{laneChoice}
 
 module _ (b n : ℕ) (xs : List ℤ) (a : ChannelAssignment) where
-  -- the subframes before subframe c
+  -- the bits of the subframes before subframe c
   abbrev soFar : ℕ → List ℕ
   soFar c = row (laneBits b n xs) (map (laneOf a) (counting 0 c))
 
@@ -58,7 +58,7 @@ module _ (b n : ℕ) (xs : List ℤ) (a : ChannelAssignment) where
         let f : x .bits ≡ length (laneBits b n xs (laneOf a c)) = ap (λ (y : Choice). y .bits) e ∙ choice-bits (laneOf a c) in
         record { same = omega (arith, k .same, f, next c); small = omega (arith, k .small, add-mul c 1 (2 ^ 22)) }
 
--- all subframes
+-- the bits of all subframes
 pub counted-all : (set : FrameSetting) (xs : List ℤ) {bits count c : ℕ} → Counted (set .bits) (set .size) xs (assignment (set .channels)) bits c → c ≡ count
     → count ≡ channelCount (assignment (set .channels)) → bits ≡ length (subframesBits set xs)
 unfolding subframesBits lanes

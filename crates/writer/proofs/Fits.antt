@@ -1,4 +1,4 @@
--- Which samples fit. Assumes nothing.
+-- Sample range: which samples fit the bits. Assumes nothing.
 use Prim.Native.Nat.{ℕ, suc, _+_, _-_, _*_, _^_, _≤_, _<_}
 use native.Mathlib.Omega.{arith}
 use mathlib.Core.Path.{_≡_, refl, ap, sym, _∙_}
@@ -16,7 +16,7 @@ use Rattle.rfc9639.specs.Coding.{fold}
 use Rattle.rfc9639.specs.Write.{fits, allFit}
 use Rattle.rfc9639.proofs.Widths.{pow-double}
 
--- ---- what fits w bits is below 2 ^ w once it is folded
+-- ---- a sample fits w bits where its folded form is below 2 ^ w
 
 same-test : (a b c d : ℕ) → (a < b → c < d) → (b ≤ a → d ≤ c) → ltb a b ≡ ltb c d
 same-test a b c d f g = go (ltb a b) refl
@@ -30,14 +30,14 @@ unfolding fits fold
 fits-folded w h (pos n) = same-test n (2 ^ (w - 1)) (n * 2) (2 ^ w) (λ l. omega (arith, pow-double w h)) (λ l. omega (arith, pow-double w h))
 fits-folded w h (negsuc n) = same-test n (2 ^ (w - 1)) (n * 2 + 1) (2 ^ w) (λ l. omega (arith, pow-double w h)) (λ l. omega (arith, pow-double w h))
 
--- ---- all samples, one after the other
+-- ---- all samples, one by one
 
 module _ (w : ℕ) (xs : List ℤ) (i : ℕ) (same : allFit w (drop i xs) ≡ allFit w xs) where
   first : i < length xs → (fits w (getD xs i (pos 0)) && allFit w (drop (suc i) xs)) ≡ allFit w xs
   unfolding allFit
   first h = sym (ap (allFit w) (drop-cons xs i (pos 0) h)) ∙ same
 
-  -- a sample that is read is its bits
+  -- the code passes a sample by its bits
   tested : SFits w32 (getD xs i (pos 0)) → {t : Bool} → fits w (toZ w32 (ofZ w32 (getD xs i (pos 0)))) ≡ t → t ≡ fits w (getD xs i (pos 0))
   tested f e = sym e ∙ ap (fits w) (toZ-ofZ f)
 

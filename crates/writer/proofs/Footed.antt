@@ -1,4 +1,4 @@
--- The end of a frame: where the pen stands, and that all of it is the definition's `footed` and `padded`. Assumes nothing.
+-- The end of a frame: where the pen stands, and that it is the definition's `footed` and `padded`. Assumes nothing.
 use Prim.Native.Nat.{ℕ, zero, suc, _+_, _-_, _*_, _/_, _%_, _≤_, _<_}
 use native.Mathlib.Omega.{arith}
 use mathlib.Core.Path.{_≡_, refl, ap, sym, _∙_}
@@ -14,11 +14,11 @@ use Rattle.rfc9639.specs.Write.{padded, footed}
 use Rattle.rfc9639.proofs.Bound.{length-padded}
 use Rattle.rfc9639.proofs.Whole.{bits-padded}
 use Rattle.output.specs.declared.Pen.{Pen}
-use Rattle.output.specs.Ink.{State, ink, inked, fresh}
+use Rattle.output.specs.Ink.{State, ink, inked, fresh, Writes}
 use Rattle.output.proofs.Inking.{Good, ink-byte, inked-is, inked-length, inked-append, inked-before, inked-part}
 use Rattle.writer.specs.Private.{filled, summed}
 
--- where the pen stands once the byte begun is filled
+-- where the pen stands once k zeros fill the byte
 at : ℕ → Pen → List ℕ → ℕ
 at k p s = inked (bitsOf k 0) p s .pen .byte
 
@@ -32,7 +32,7 @@ filled-at p s g l (suc h) e =
     let b : at n p s ≡ p .byte + 1 = ap (λ (st : State). st .pen .byte) whole in
     omega (arith, b)
 
--- it stays within the bytes
+-- the filled pen stays within the bytes
 pub filled-within : (p : Pen) (s : List ℕ) {q : Pen} {t : List ℕ} → Good p → p .byte < length s → _≡_ {A = State} (record { pen = q; bytes = t }) (filled p s)
     → q .byte ≤ length t
 unfolding filled at
@@ -47,26 +47,26 @@ module _ (bs s : List ℕ) (b : Binary bs) (room : (length bs + 7) / 8 + 2 ≤ l
   m : ℕ
   m = length bs / 8
 
-  -- the pen holds what is over whole bytes
+  -- the pen holds the bits past the last whole byte
   begun : inked bs fresh s ≡ record { pen = record { byte = m; held = length (drop (8 * m) bs); bits = spelt 0 (drop (8 * m) bs) }; bytes = bytesOf m (take (8 * m) bs) ++ drop m s }
   unfolding m
   begun =
       ap (λ x. inked x fresh s) (sym (take-append-drop (8 * m) bs))
       ∙ inked-part (take (8 * m) bs) (drop (8 * m) bs) s m (length-take-le (8 * m) bs (omega arith)) (omega (arith, length-drop (8 * m) bs)) (omega arith)
 
-  -- within the bytes
-  pub pen-within : {p : Pen} {t : List ℕ} → _≡_ {A = State} (record { pen = p; bytes = t }) (inked bs fresh s) → p .byte < length t
+  -- the pen stands within the bytes
+  pub pen-within : {p : Pen} {t : List ℕ} → Writes bs fresh s p t → p .byte < length t
   unfolding m
   pen-within {p} {t} e =
       let k : p .byte ≡ m = ap (λ (st : State). st .pen .byte) (e ∙ begun) in
       let l : length t ≡ length s = ap (λ (st : State). length (st .bytes)) e ∙ inked-length bs fresh s in
       omega (arith, k, l)
 
-  -- the bytes before the sum are the padded bits
+  -- the bytes before the CRC-16 are the padded bits
   before : bitsOfBytes (take (inked (padded bs) fresh s .pen .byte) (inked (padded bs) fresh s .bytes)) ≡ padded bs
   before = inked-before (padded bs) s ((length bs + 7) / 8) (bits-padded b .bits) (length-padded bs) (omega arith) refl
 
-  module _ {p : Pen} {t : List ℕ} (e : _≡_ {A = State} (record { pen = p; bytes = t }) (inked bs fresh s)) where
+  module _ {p : Pen} {t : List ℕ} (e : Writes bs fresh s p t) where
     held : p .held ≡ length bs % 8
     unfolding m
     held = let h : p .held ≡ length (drop (8 * m) bs) = ap (λ (st : State). st .pen .held) (e ∙ begun) in omega (arith, h, length-drop (8 * m) bs)
@@ -78,7 +78,7 @@ module _ (bs s : List ℕ) (b : Binary bs) (room : (length bs + 7) / 8 + 2 ≤ l
         ap (λ (h : ℕ). inked (bitsOf ((8 - h) % 8) 0) p t) held ∙ ap (λ (st : State). inked (bitsOf k 0) (st .pen) (st .bytes)) e
         ∙ sym (inked-append bs (bitsOf k 0) fresh s (b .bits)) ∙ ap (λ (z : List ℕ). inked (bs ++ z) fresh s) (bitsOf-zero k)
 
-    -- what was written, filled up and summed, is the definition's
+    -- the bits, padded and with their CRC-16, are the definition's
     pub footed-is : summed (filled p t) ≡ inked (footed (padded bs)) fresh s
     unfolding summed footed
     footed-is =

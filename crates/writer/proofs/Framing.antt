@@ -1,4 +1,4 @@
--- The whole frame: header, subframes and end, one behind the other. Assumes nothing.
+-- The whole frame: header, subframes and end, one after the other. Assumes nothing.
 use Prim.Native.Nat.{ℕ, _+_, _/_, _≤_, _<_}
 use native.Mathlib.Omega.{arith}
 use mathlib.Core.Path.{_≡_, ap, _∙_}
@@ -12,7 +12,7 @@ use Rattle.rfc9639.specs.Write.{headerBits, subframesBits, frameBits, frameByte
 use Rattle.rfc9639.proofs.Bound.{length-frame, header-whole}
 use Rattle.rfc9639.proofs.Whole.{bits-header, bits-subframes, length-frameBits}
 use Rattle.output.specs.declared.Pen.{Pen}
-use Rattle.output.specs.Ink.{State, inked, fresh}
+use Rattle.output.specs.Ink.{State, fresh, Writes}
 use Rattle.output.proofs.Inking.{Good, fresh-good, inked-good, inked-whole}
 use Rattle.output.proofs.Chaining.{first, inked-then}
 use Rattle.heading.specs.Heads.{headed}
@@ -20,7 +20,7 @@ use Rattle.heading.proofs.Heading.{headed-is}
 use Rattle.writer.specs.Private.{filled, summed}
 use Rattle.writer.proofs.Footed.{pen-within, footed-is}
 
--- how long it is
+-- its length
 pub length-is : (set : FrameSetting) (xs : List ℤ) {bits : ℕ} → bits ≡ length (subframesBits set xs)
     → length (headerBits set) / 8 + (bits + 7) / 8 + 2 ≡ length (frameBytes set xs)
 length-is set xs {bits} e = omega (arith, e, length-frame set xs, length-append (headerBits set) (subframesBits set xs), header-whole set)
@@ -38,8 +38,8 @@ module _ (set : FrameSetting) (xs : List ℤ) (s : List ℕ) (room : length (fra
   coded-room = omega (arith, length-frame set xs)
 
   -- the header and the subframes
-  module _ {h p : Pen} {t u : List ℕ} (e : _≡_ {A = State} (record { pen = h; bytes = t }) (headed set s)) (f : _≡_ {A = State} (record { pen = p; bytes = u }) (inked (subframesBits set xs) h t)) where
-    so-far : _≡_ {A = State} (record { pen = p; bytes = u }) (inked coded fresh s)
+  module _ {h p : Pen} {t u : List ℕ} (e : _≡_ {A = State} (record { pen = h; bytes = t }) (headed set s)) (f : Writes (subframesBits set xs) h t p u) where
+    so-far : Writes coded fresh s p u
     unfolding coded
     so-far =
         inked-then (first (bits-header set) (e ∙ headed-is set s (omega (arith, length-frame set xs, length-append (headerBits set) (subframesBits set xs))))) (subframesBits set xs) f

@@ -1,5 +1,4 @@
--- The subframes, one after the other: which lane each stores, what was chosen for it, and what is written of it. Assumes
--- nothing.
+-- The subframes, one by one: the lane that each stores, its choice, and the bits written. Assumes nothing.
 use Prim.Native.Nat.{ℕ, _+_, _≤_, _<_}
 use native.Mathlib.Omega.{arith}
 use mathlib.Core.Path.{_≡_, refl, ap, sym, _∙_}
@@ -12,21 +11,21 @@ use Rattle.rfc9639.specs.declared.ChannelAssignment.{ChannelAssignment}
 use Rattle.rfc9639.specs.declared.Lane.{Lane}
 use Rattle.rfc9639.specs.declared.Lane.the-variants.{Mid}
 use Rattle.rfc9639.specs.HeaderCodes.{channelCount}
-use Rattle.rfc9639.specs.Coding.{codedAs, subframeBits}
+use Rattle.rfc9639.specs.Coding.{subframeBits}
 use Rattle.rfc9639.specs.Write.{laneOf, lanes, laneWidth, stored, laneBits}
 use Rattle.rfc9639.proofs.Listing.{getD-map, length-lanes, lane-at, width-within}
 use Rattle.rfc9639.proofs.Whole.{bits-lane}
 use Rattle.choice.specs.declared.Choice.{Choice}
 use Rattle.choice.specs.Choices.{choiceOf}
 use Rattle.output.specs.declared.Pen.{Pen}
-use Rattle.output.specs.Ink.{State, inked}
+use Rattle.output.specs.Ink.{State, inked, Writes}
 use Rattle.coding.specs.Ways.{writtenAs}
 use Rattle.coding.proofs.Pieces.{written-some}
 use Rattle.output.proofs.Rows.{Unwritten, step}
-use Rattle.writer.specs.Private.{laneChoice}
+use Rattle.writer.specs.Private.{laneCodedAs, laneChoice}
 
 module _ (a : ChannelAssignment) where
-  -- what stands at a place of the plan
+  -- the choice that is planned for subframe c
   pub planned-at : (b n : ℕ) (xs : List ℤ) (choices : List Choice) → take (channelCount a) choices ≡ map (laneChoice b n xs) (lanes a)
       → (c : ℕ) (d : Choice) → c < channelCount a → getD choices c d ≡ laneChoice b n xs (laneOf a c)
   planned-at b n xs choices e c d h =
@@ -36,22 +35,22 @@ module _ (a : ChannelAssignment) where
 -- ---- one subframe
 
 pub lane-written : (c : Candidate) (b n : ℕ) (xs : List ℤ) (p : Pen) (s : List ℕ) {x : State} {w : ℕ} {lane lane′ : Lane} → b ≤ 24
-    → x ≡ inked (writtenAs c w (stored n xs lane)) p s → w ≡ laneWidth b lane → lane ≡ lane′ → x ≡ inked (codedAs c (laneWidth b lane′) (stored n xs lane′)) p s
+    → x ≡ inked (writtenAs c w (stored n xs lane)) p s → w ≡ laneWidth b lane → lane ≡ lane′ → x ≡ inked (laneCodedAs c b n xs lane′) p s
 lane-written c b n xs p s {x} {w} {lane} {lane′} h e f g =
     e ∙ ap (λ v. inked (writtenAs c v (stored n xs lane)) p s) f
     ∙ ap (λ l. inked l p s) (written-some c (laneWidth b lane) (stored n xs lane) (let k = width-within b lane in omega arith))
-    ∙ ap (λ l. inked (codedAs c (laneWidth b l) (stored n xs l)) p s) g
+    ∙ ap (λ l. inked (laneCodedAs c b n xs l) p s) g
 
 module _ (a : ChannelAssignment) (b n : ℕ) (xs : List ℤ) where
-  coded-lane : (lane : Lane) → codedAs (laneChoice b n xs lane .candidate) (laneWidth b lane) (stored n xs lane) ≡ laneBits b n xs lane
+  coded-lane : (lane : Lane) → laneCodedAs (laneChoice b n xs lane .candidate) b n xs lane ≡ laneBits b n xs lane
   unfolding laneChoice choiceOf laneBits subframeBits
   coded-lane lane = refl
 
-  -- the next of them, as it was planned
+  -- the next subframe, as planned
   pub lane-next : {p₀ : Pen} {s₀ : List ℕ} {c : ℕ} {p : Pen} {s : List ℕ} → Unwritten (laneBits b n xs) (lanes a) p₀ s₀ c p s → c < channelCount a
       → {choice : Choice} → choice ≡ laneChoice b n xs (laneOf a c) → {q : Pen} {t : List ℕ}
-      → _≡_ {A = State} (record { pen = q; bytes = t }) (inked (codedAs (choice .candidate) (laneWidth b (laneOf a c)) (stored n xs (laneOf a c))) p s)
+      → Writes (laneCodedAs (choice .candidate) b n xs (laneOf a c)) p s q t
       → Unwritten (laneBits b n xs) (lanes a) p₀ s₀ (c + 1) q t
   lane-next {p₀} {s₀} {c} {p} {s} u h {choice} e f =
       step u Mid {y = laneOf a c} (omega (arith, length-lanes a)) (sym (lane-at a c Mid h)) (bits-lane b n xs (laneOf a c))
-      (f ∙ ap (λ (k : Choice). inked (codedAs (k .candidate) (laneWidth b (laneOf a c)) (stored n xs (laneOf a c))) p s) e ∙ ap (λ l. inked l p s) (coded-lane (laneOf a c)))
+      (f ∙ ap (λ (k : Choice). inked (laneCodedAs (k .candidate) b n xs (laneOf a c)) p s) e ∙ ap (λ l. inked l p s) (coded-lane (laneOf a c)))

@@ -1,4 +1,4 @@
--- Laws for the writer.
+-- Laws for the writer's proofs, and that it has one outcome.
 pub mod Fits
 pub mod Footed
 pub mod Planning

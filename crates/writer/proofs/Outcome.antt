@@ -1,5 +1,4 @@
--- Any two outcomes that meet the writer's contract are equal: number and length tell the answer, and the output is the
--- definition's. Assumes nothing.
+-- Any two outcomes that meet the writer's contract are equal: number and length determine the answer. Assumes nothing.
 use Prim.Native.Nat.{ℕ}
 use native.Mathlib.Omega.{arith}
 use mathlib.Core.Path.{_≡_, ap}

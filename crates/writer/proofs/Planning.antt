@@ -1,4 +1,4 @@
--- The choices for the subframes, one after the other, and what they come to. Assumes nothing.
+-- The choices for the subframes, made one by one. Assumes nothing.
 use Prim.Native.Nat.{ℕ, _+_, _≤_, _<_}
 use native.Mathlib.Numerals.{add-one}
 use native.Mathlib.Omega.{arith}
@@ -54,7 +54,7 @@ pub chosen-lane : (b n : ℕ) (xs : List ℤ) {r : Choice} {w : ℕ} {lane lane�
 unfolding laneChoice
 chosen-lane b n xs {r} {w} {lane} {lane′} e f g = e ∙ ap (λ v. choiceOf v (stored n xs lane)) f ∙ ap (laneChoice b n xs) g
 
--- all of them
+-- the choices for all subframes
 pub planned-all : (a : ChannelAssignment) (b n : ℕ) (xs : List ℤ) {count c : ℕ} {places : List Choice} → Planned (λ i. laneChoice b n xs (laneOf a i)) count places c
     → count ≤ c → count ≡ channelCount a → take (channelCount a) places ≡ map (laneChoice b n xs) (lanes a)
 unfolding lanes

@@ -1,3 +1,3 @@
--- What the writer and its parts answer, in the words of the definition.
+-- What the writer and its private functions answer, in the definition's words.
 pub mod Private
 pub mod Outcomes

@@ -3,7 +3,7 @@ ghost use mathlib.Core.Path.{_≡_};
 ghost use Prim.Native.Nat.{_≤_};
 ghost use Rattle.rfc9639.specs.Write.{fits, allFit};
 
-// Twice a number from 0 on, or twice one below it less one: what fits w bits is below 2 ^ w then.
+// A sample fits w bits in two's complement if and only if its folded form is below 2 ^ w.
 fn does_fit(x: i32, bits: u32) -> bool
     requires { ⌜ (1 ≤ bits) × (bits ≤ 32) ⌝ }
     ensures { λ r. ⌜ r ≡ fits bits x ⌝ }

@@ -1,5 +1,4 @@
--- `better_fixed` meets its contract: what stands before the residuals and the sums of their quotients make the bits of the
--- definition. Assumes nothing.
+-- `better_fixed` meets its contract: its head and the sums of the quotients make the bits of the definition. Assumes nothing.
 use Prim.Native.Nat.{_+_, _-_, _*_, _^_, _<_}
 use native.Mathlib.Omega.{arith}
 use mathlib.Core.Path.{_≡_, ap, sym, _∙_}
@@ -8,9 +7,8 @@ use borrow.Author.Needs.{needs}
 use lib.IntN.{ℤ}
 use lib.ListN.{length}
 use Rattle.rfc9639.specs.Coding.{fixedResiduals}
-use Rattle.rfc9639.specs.Write.{stored}
-use Rattle.rfc9639.proofs.Lengths.{length-fixedResiduals}
-use Rattle.rfc9639.proofs.Lengths.{stored-at-most}
+use Rattle.rfc9639.proofs.Lengths.{length-fixedResiduals, stored-at-most}
+use Rattle.lanes.specs.Sources.{storedBy}
 use Rattle.choice.proofs.Sizes.{product-small}
 use Rattle.choice.proofs.Tallying.{length-sums}
 use Rattle.choice.proofs.Pricing.{offered}
@@ -20,28 +18,25 @@ use Rattle.choice.proofs.better_fixed.Tie as tie
 stored-len-requires : tie.Need-stored-len-requires
 stored-len-requires c κs = search needs
 
-sub-count : tie.Need-sub-count
-sub-count c = search needs
+saturating-sub-requires : tie.Need-saturating-sub-requires
+saturating-sub-requires c κs = search needs
 
 plain-bits-requires : tie.Need-plain-bits-requires
 plain-bits-requires c κs = search needs
 
-module _ (s : tie.Start) where
-  abbrev xs : List ℤ
-  xs = stored (s .args .n) (s .args .samples .now) (s .args .lane)
-
-  few : length xs < 2 ^ 16
-  few = omega (arith, stored-at-most (s .args .n) (s .args .samples .now) (s .args .lane), s .fits .n .fits)
-
-module _ (c : tie.After-stored-len) where
+module _ (c : tie.After-saturating-sub) where
   abbrev s : tie.Start
-  s = c .before
+  s = c .before .before
 
-  count-is : c .stored-len .result - s .args .order ≡ length (fixedResiduals (s .args .order) (xs s))
-  count-is = ap (λ m. m - s .args .order) (c .stored-len .ensures) ∙ sym (length-fixedResiduals (s .args .order) (xs s))
+  abbrev xs : List ℤ
+  xs = storedBy (s .args .source) (s .args .samples .now)
 
-  count-few : c .stored-len .result - s .args .order < 2 ^ 16
-  count-few = omega (arith, few s, c .stored-len .ensures)
+  count-is : c .saturating-sub .result ≡ length (fixedResiduals (s .args .order) xs)
+  count-is =
+      c .saturating-sub .ensures ∙ ap (λ m. m - s .args .order) (c .before .stored-len .ensures) ∙ sym (length-fixedResiduals (s .args .order) xs)
+
+  count-few : c .saturating-sub .result < 2 ^ 16
+  count-few = omega (arith, stored-at-most (s .args .source .size) (s .args .samples .now) (s .args .source .lane))
 
 module _ (c : tie.After-plain-bits) where
   head-is : c .plain-bits .result + 10 ≡ 18 + s (c .before) .args .order * s (c .before) .args .width
@@ -72,7 +67,7 @@ better-fixed-spec =
     tie.close
     (tie.spec
     stored-len-requires
-    sub-count
+    saturating-sub-requires
     plain-bits-requires
     add-head
     quotient-sums-requires

@@ -1,17 +1,17 @@
--- `choose` meets its contract. The loop's invariant (Judged): the whole answer is the answer from here. Assumes nothing.
+-- `choose` meets its contract: a turn for each order (Judged). Assumes nothing.
 use Prim.Native.Nat.{_-_}
 use native.Mathlib.Omega.{arith}
 use borrow.Author.Needs.{needs}
-use Rattle.rfc9639.specs.Write.{stored}
+use Rattle.lanes.specs.Sources.{storedBy}
 use Rattle.choice.proofs.Choosing.{Judged, begin, step, end}
 use Rattle.choice.proofs.choose.Statement.{statement}
 use Rattle.choice.proofs.choose.Tie as tie
 
 abbrev Inv-loop : tie.InvT-loop
-Inv-loop samples n lane width limit best₀ order₀ best order = Judged width (stored n samples lane) best order
+Inv-loop samples source width limit best₀ order₀ best order = Judged width (storedBy source samples) best order
 
 abbrev μ-loop : tie.MeasureT-loop
-μ-loop samples n lane width limit best₀ order₀ best order = limit - order
+μ-loop samples source width limit best₀ order₀ best order = limit - order
 
 stored-len-requires : tie.Need-stored-len-requires Inv-loop μ-loop
 stored-len-requires c κs = search needs

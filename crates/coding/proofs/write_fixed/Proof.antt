@@ -1,4 +1,4 @@
--- `write_fixed` meets its contract: the warm-up, and the residual behind it. Assumes nothing.
+-- `write_fixed` meets its contract: the warm-up, then the residual. Assumes nothing.
 use borrow.Author.Needs.{needs}
 use Rattle.reading.proofs.Spelling.{both}
 use Rattle.rfc9639.specs.Coding.{codedAs}
@@ -7,11 +7,11 @@ use Rattle.output.proofs.Chaining.{first, inked-then}
 use Rattle.coding.proofs.write_fixed.Statement.{statement}
 use Rattle.coding.proofs.write_fixed.Tie as tie
 
-add-write-start : tie.Need-add-write-start
-add-write-start c = search needs
+add-code : tie.Need-add-code
+add-code c = search needs
 
-write-start-requires : tie.Need-write-start-requires
-write-start-requires c κs = search needs
+write-head-and-plain-requires : tie.Need-write-head-and-plain-requires
+write-head-and-plain-requires c κs = search needs
 
 write-residual-requires : tie.Need-write-residual-requires
 write-residual-requires c κs = search needs
@@ -23,9 +23,9 @@ returns : tie.Need-returns
 unfolding codedAs
 returns c =
     let w = c .before .before in
-    inked-then (first (both (bits-head _) (bits-plain _ _)) (w .before .before .before .before .write-start .ensures)) _ (w .write-residual .ensures)
+    inked-then (first (both (bits-head _) (bits-plain _ _)) (w .before .before .before .before .write-head-and-plain .ensures)) _ (w .write-residual .ensures)
 
 pub write-fixed-spec : {M : Type 1} → statement M
 write-fixed-spec =
     tie.close
-    (tie.spec add-write-start write-start-requires write-residual-requires same-length returns)
+    (tie.spec add-code write-head-and-plain-requires write-residual-requires same-length returns)

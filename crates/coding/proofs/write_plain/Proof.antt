@@ -10,7 +10,7 @@ use mir.Facts.{toZ-ofZ}
 use Rattle.reading.specs.Spelling.{bitsOf}
 use Rattle.reading.proofs.Spelling.{number}
 use Rattle.rfc9639.specs.Coding.{plain}
-use Rattle.rfc9639.specs.Write.{stored}
+use Rattle.lanes.specs.Sources.{storedBy}
 use Rattle.output.specs.Ink.{inked}
 use Rattle.output.proofs.Rows.{Unwritten, begin, step, end}
 use Rattle.signed.proofs.Extending.{lowBits-is}
@@ -19,10 +19,10 @@ use Rattle.coding.proofs.write_plain.Statement.{statement}
 use Rattle.coding.proofs.write_plain.Tie as tie
 
 abbrev Inv-loop : tie.InvT-loop
-Inv-loop samples n lane width most out₀ count p₀ i₀ out p i = Unwritten (sampleBits width) (take most (stored n samples lane)) p₀ out₀ i p out
+Inv-loop samples source width most out₀ count p₀ i₀ out p i = Unwritten (sampleBits width) (take most (storedBy source samples)) p₀ out₀ i p out
 
 abbrev μ-loop : tie.MeasureT-loop
-μ-loop samples n lane width most out₀ count p₀ i₀ out p i = count - i
+μ-loop samples source width most out₀ count p₀ i₀ out p i = count - i
 
 stored-len-requires : tie.Need-stored-len-requires Inv-loop μ-loop
 stored-len-requires c κs = search needs
@@ -53,7 +53,7 @@ loop-again c =
     let w = c .before .before in let x = w .before .before .before in let l = x .before .before in
     let s = l .before .before .before .before in let a = s .args in
     step (l .loop .inv) (pos 0) (rw length-take (omega arith))
-    (toZ-ofZ (record { sfits = x .stored-sample .ok }) ∙ x .stored-sample .ensures ∙ sym (getD-take (a .most) (stored (a .n) (a .samples .now) (a .lane)) (l .loop .i) (pos 0) (omega arith)))
+    (toZ-ofZ (record { sfits = x .stored-sample .ok }) ∙ x .stored-sample .ensures ∙ sym (getD-take (a .most) (storedBy (a .source) (a .samples .now)) (l .loop .i) (pos 0) (omega arith)))
     (number (a .width) _)
     (w .write-bits .ensures ∙ ap (λ v. inked (bitsOf (a .width) v) (l .loop .p) (l .loop .out)) (w .before .low-bits .ensures ∙ lowBits-is (a .width) _ (s .pre)))
 

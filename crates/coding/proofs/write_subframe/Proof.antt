@@ -1,8 +1,8 @@
--- `write_subframe` meets its contract, by the way. Assumes nothing.
+-- `write_subframe` meets its contract, way by way. Assumes nothing.
 use borrow.Author.Needs.{needs}
 use native.Mathlib.Omega.{arith}
 use mathlib.Core.Path.{refl, sym, _∙_}
-use Rattle.rfc9639.specs.Write.{stored}
+use Rattle.lanes.specs.Sources.{storedBy}
 use Rattle.output.proofs.Inking.{inked-nothing}
 use Rattle.output.proofs.Chaining.{inked-as}
 use Rattle.coding.proofs.Pieces.{written-none, written-constant, written-verbatim, written-fixed}
@@ -12,13 +12,13 @@ use Rattle.coding.proofs.write_subframe.Tie as tie
 returns : tie.Need-returns
 returns c =
     let a = c .before .before .args in
-    sym (inked-as _ _ (written-none (a .candidate) (a .width) (stored (a .n) (a .samples .now) (a .lane)) (c .if1 .taken)) refl ∙ inked-nothing _ _)
+    sym (inked-as _ _ (written-none (a .candidate) (a .width) (storedBy (a .source) (a .samples .now)) (c .if1 .taken)) refl ∙ inked-nothing _ _)
 
 enum-told : tie.Need-enum-told
 enum-told c = search needs
 
-write-start-requires : tie.Need-write-start-requires
-write-start-requires c κs = search needs
+write-head-and-plain-requires : tie.Need-write-head-and-plain-requires
+write-head-and-plain-requires c κs = search needs
 
 enum-told-2 : tie.Need-enum-told-2
 enum-told-2 c = search needs
@@ -26,8 +26,8 @@ enum-told-2 c = search needs
 stored-len-requires : tie.Need-stored-len-requires
 stored-len-requires c κs = search needs
 
-write-start-requires-2 : tie.Need-write-start-requires-2
-write-start-requires-2 c κs = search needs
+write-head-and-plain-requires-2 : tie.Need-write-head-and-plain-requires-2
+write-head-and-plain-requires-2 c κs = search needs
 
 enum-known-candidate : tie.Need-enum-known-candidate
 enum-known-candidate c = search needs
@@ -41,7 +41,7 @@ same-length c = search needs
 returns-2 : tie.Need-returns-2
 returns-2 c =
     let w = c .before .before in let t = w .before .before in let a = t .before .before .before .before .args in
-    inked-as _ _ (written-constant (a .candidate) (a .width) (stored (a .n) (a .samples .now) (a .lane)) (omega arith) (t .enum-told .given .1)) (w .write-start .ensures)
+    inked-as _ _ (written-constant (a .candidate) (a .width) (storedBy (a .source) (a .samples .now)) (omega arith) (t .enum-told .given .1)) (w .write-head-and-plain .ensures)
 
 same-length-2 : tie.Need-same-length-2
 same-length-2 c = search needs
@@ -49,8 +49,8 @@ same-length-2 c = search needs
 returns-3 : tie.Need-returns-3
 returns-3 c =
     let w = c .before .before in let l = w .before .before in let t = l .before in let a = t .before .before .before .before .args in
-    inked-as _ _ (written-verbatim (a .candidate) (a .width) (stored (a .n) (a .samples .now) (a .lane)) (omega arith) (t .enum-told2 .given .1) (l .stored-len .ensures))
-    (w .write-start2 .ensures)
+    inked-as _ _ (written-verbatim (a .candidate) (a .width) (storedBy (a .source) (a .samples .now)) (omega arith) (t .enum-told2 .given .1) (l .stored-len .ensures))
+    (w .write-head-and-plain2 .ensures)
 
 same-length-3 : tie.Need-same-length-3
 same-length-3 c = search needs
@@ -58,7 +58,7 @@ same-length-3 c = search needs
 returns-4 : tie.Need-returns-4
 returns-4 c =
     let w = c .before .before in let t = w .before .before .before in let a = t .before .before .before .before .args in
-    inked-as _ _ (written-fixed (a .candidate) (a .width) (stored (a .n) (a .samples .now) (a .lane)) (omega arith) (t .candidate .given .1)) (w .write-fixed .ensures)
+    inked-as _ _ (written-fixed (a .candidate) (a .width) (storedBy (a .source) (a .samples .now)) (omega arith) (t .candidate .given .1)) (w .write-fixed .ensures)
 
 pub write-subframe-spec : {M : Type 1} → statement M
 write-subframe-spec =
@@ -66,10 +66,10 @@ write-subframe-spec =
     (tie.spec
     returns
     enum-told
-    write-start-requires
+    write-head-and-plain-requires
     enum-told-2
     stored-len-requires
-    write-start-requires-2
+    write-head-and-plain-requires-2
     enum-known-candidate
     write-fixed-requires
     same-length

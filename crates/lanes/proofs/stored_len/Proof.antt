@@ -1,4 +1,4 @@
--- `stored_len` meets its contract, by the lane. Assumes nothing.
+-- `stored_len` meets its contract, lane by lane. Assumes nothing.
 use mathlib.Core.Path.{sym, _∙_}
 use borrow.Author.Needs.{needs}
 use Rattle.lanes.proofs.Storing.{length-channel, length-both, stored-channel, stored-mid, stored-side}
@@ -26,17 +26,17 @@ channel-len-requires-3 c κs = search needs
 returns : tie.Need-returns
 returns c =
     let l = c .before .before in let a = l .before .before .args in
-    c .channel-len .ensures ∙ sym (length-channel (stored-channel (a .n) (a .samples .now) (l .lane .given .1)))
+    c .channel-len .ensures ∙ sym (length-channel (stored-channel (a .source .size) (a .samples .now) (l .lane .given .1)))
 
 returns-2 : tie.Need-returns-2
 returns-2 c =
     let a = c .before .before .before .args in
-    c .channel-len2 .ensures ∙ sym (length-both (stored-mid (a .n) (a .samples .now) (c .before .enum-told .given .1)))
+    c .channel-len2 .ensures ∙ sym (length-both (stored-mid (a .source .size) (a .samples .now) (c .before .enum-told .given .1)))
 
 returns-3 : tie.Need-returns-3
 returns-3 c =
     let a = c .before .before .before .args in
-    c .channel-len3 .ensures ∙ sym (length-both (stored-side (a .n) (a .samples .now) (c .before .enum-told2 .given .1)))
+    c .channel-len3 .ensures ∙ sym (length-both (stored-side (a .source .size) (a .samples .now) (c .before .enum-told2 .given .1)))
 
 pub stored-len-spec : {M : Type 1} → statement M
 stored-len-spec =

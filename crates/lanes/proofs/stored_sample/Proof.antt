@@ -1,10 +1,10 @@
--- `stored_sample` meets its contract: outside, the definition has its default. Assumes nothing.
+-- `stored_sample` meets its contract: past the end the definition has its default. Assumes nothing.
 use native.Mathlib.Omega.{arith}
 use mathlib.Core.Path.{sym}
 use borrow.Author.Needs.{needs}
 use lib.IntN.{pos}
 use lib.ListN.{List·getD-eq-default}
-use Rattle.rfc9639.specs.Write.{stored}
+use Rattle.lanes.specs.Sources.{storedBy}
 use Rattle.lanes.proofs.stored_sample.Statement.{statement}
 use Rattle.lanes.proofs.stored_sample.Tie as tie
 
@@ -14,7 +14,7 @@ stored-len-requires c κs = search needs
 returns : tie.Need-returns
 returns c =
     let a = c .before .before .args in
-    sym (List·getD-eq-default (stored (a .n) (a .samples .now) (a .lane)) (pos 0) (omega (arith, c .before .stored-len .ensures)))
+    sym (List·getD-eq-default (storedBy (a .source) (a .samples .now)) (pos 0) (omega (arith, c .before .stored-len .ensures)))
 
 sample-at-requires : tie.Need-sample-at-requires
 sample-at-requires c κs = search needs

@@ -1,4 +1,4 @@
--- `low32` meets its contract: what comes back from both shifts is the low half, signed. Assumes nothing.
+-- `low32` meets its contract: a shift up and down by 32 leaves the low half, signed. Assumes nothing.
 use mathlib.Core.Path.{_≡_}
 use lib.IntN.{ℤ}
 use mir.Syntax.{w32, w64}

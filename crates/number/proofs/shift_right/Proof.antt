@@ -1,4 +1,4 @@
--- `shift_right` meets its contract: 64 bits hold no multiple of a larger power. Assumes nothing.
+-- `shift_right` meets its contract: a u64 is below 2 ^ k for k of 64 or more. Assumes nothing.
 use borrow.Author.Needs.{needs}
 use native.Mathlib.Nat.{div-eq-of-lt, lt-of-lt-of-le}
 use native.Mathlib.Omega.{arith}

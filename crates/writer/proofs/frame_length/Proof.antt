@@ -1,4 +1,4 @@
--- A frame's bytes. Assumes nothing.
+-- `frame_length` meets its contract: a header has at most 14 bytes. Assumes nothing.
 use borrow.Author.Needs.{needs}
 use native.Mathlib.Omega.{arith}
 use Rattle.rfc9639.proofs.Bound.{header-at-most}

@@ -1,8 +1,13 @@
--- The three tests, and the frame. Assumes nothing.
-use borrow.Author.Needs.{needs}
+-- `write_frame` meets its contract: the three tests, and the frame. Assumes nothing.
 use native.Mathlib.Omega.{arith}
+use mathlib.Core.Path.{_≡_, sym, _∙_}
+use mathlib.Core.Bool.{true}
+use borrow.Author.Needs.{needs}
 use borrow.Author.Tests.{not-true, not-false}
-use mathlib.Core.Path.{sym, _∙_}
+use lib.ListN.{length}
+use Rattle.rfc9639.specs.declared.FrameSetting.{FrameSetting}
+use Rattle.rfc9639.specs.Write.{allowed, allFit, frameBytes}
+use Rattle.writer.specs.Outcomes.{settingOf}
 use Rattle.writer.proofs.Framing.{length-is}
 use Rattle.writer.proofs.Answering.{bits-between, in-range, no-setting, no-fit, no-room, frame-written}
 use Rattle.writer.proofs.write_frame.Statement.{statement}
@@ -14,29 +19,46 @@ is-allowed-requires c κs = search needs
 returns : tie.Need-returns
 returns c = no-setting _ _ _ (sym (c .before .is-allowed .ensures) ∙ not-true _ (c .if1 .taken))
 
+abbrev set : tie.Start → FrameSetting
+set s = settingOf (s .args .channels) (s .args .bits) (s .args .blocking) (s .args .number) (s .args .size)
+
+is-set : (c : tie.Else1) → let s = c .before .before .before in allowed (set s) (length (s .args .samples .now)) ≡ true
+is-set c = sym (c .before .is-allowed .ensures) ∙ not-false _ (c .if1 .left)
+
 all-fit-requires : tie.Need-all-fit-requires
-all-fit-requires c κs = bits-between _ _ (sym (c .before .is-allowed .ensures) ∙ not-false _ (c .if1 .left))
+all-fit-requires c κs = bits-between _ _ (is-set c)
 
 returns-2 : tie.Need-returns-2
-returns-2 c = no-fit _ _ _ (sym (c .before .before .before .is-allowed .ensures) ∙ not-false _ (c .before .before .if1 .left)) (sym (c .before .all-fit .ensures) ∙ not-true _ (c .if2 .taken))
+returns-2 c = no-fit _ _ _ (is-set (c .before .before)) (sym (c .before .all-fit .ensures) ∙ not-true _ (c .if2 .taken))
+
+all-fits : (c : tie.Else2) → let s = c .before .before .before .before .before in allFit (s .args .bits) (s .args .samples .now) ≡ true
+all-fits c = sym (c .before .all-fit .ensures) ∙ not-false _ (c .if2 .left)
 
 plan-of-requires : tie.Need-plan-of-requires
-plan-of-requires c κs = in-range _ _ (sym (c .before .before .before .is-allowed .ensures) ∙ not-false _ (c .before .before .if1 .left))
+plan-of-requires c κs = in-range _ _ (is-set (c .before .before))
 
 frame-length-requires : tie.Need-frame-length-requires
 frame-length-requires c κs = omega (arith, c .plan-of .ensures .2)
 
+long : (c : tie.After-frame-length)
+    → let s = c .before .before .before .before .before .before .before in c .frame-length .result ≡ length (frameBytes (set s) (s .args .samples .now))
+long c = c .frame-length .ensures ∙ length-is _ _ (c .before .plan-of .ensures .1)
+
 returns-3 : tie.Need-returns-3
-returns-3 c = no-room _ _ _ (sym (c .before .before .before .before .before .before .is-allowed .ensures) ∙ not-false _ (c .before .before .before .before .before .if1 .left)) (sym (c .before .before .before .before .all-fit .ensures) ∙ not-false _ (c .before .before .before .if2 .left)) (c .before .frame-length .ensures ∙ length-is _ _ (c .before .before .plan-of .ensures .1)) (c .if3 .taken)
+returns-3 c = let e = c .before .before .before in no-room _ _ _ (is-set (e .before .before)) (all-fits e) (long (c .before)) (c .if3 .taken)
 
 write-planned-requires : tie.Need-write-planned-requires
-write-planned-requires c κs = let r = in-range _ _ (sym (c .before .before .before .before .before .before .before .before .is-allowed .ensures) ∙ not-false _ (c .before .before .before .before .before .before .before .if1 .left)) in (r .0, r .1, r .2, c .before .before .before .before .plan-of .ensures .0, rw (sym (c .before .before .before .frame-length .ensures ∙ length-is _ _ (c .before .before .before .before .plan-of .ensures .1))) (c .before .before .if3 .left))
+write-planned-requires c κs =
+    let i = c .before .before in let p = i .before .before in
+    (in-range _ _ (is-set (p .before .before .before)), p .plan-of .ensures .0, rw (sym (long (i .before))) (i .if3 .left))
 
 same-length : tie.Need-same-length
 same-length c = search needs
 
 returns-4 : tie.Need-returns-4
-returns-4 c = frame-written _ _ _ (sym (c .before .before .before .before .before .before .before .before .before .before .before .is-allowed .ensures) ∙ not-false _ (c .before .before .before .before .before .before .before .before .before .before .if1 .left)) (sym (c .before .before .before .before .before .before .before .before .before .all-fit .ensures) ∙ not-false _ (c .before .before .before .before .before .before .before .before .if2 .left)) (c .before .before .before .before .before .before .frame-length .ensures ∙ length-is _ _ (c .before .before .before .before .before .before .before .plan-of .ensures .1)) (c .before .before .before .before .before .if3 .left) (c .before .before .write-planned .ensures)
+returns-4 c =
+    let w = c .before .before in let i = w .before .before .before in let e = i .before .before .before in
+    frame-written _ _ _ (is-set (e .before .before)) (all-fits e) (long (i .before)) (i .if3 .left) (w .write-planned .ensures)
 
 pub write-frame-spec : {M : Type 1} → statement M
 write-frame-spec =

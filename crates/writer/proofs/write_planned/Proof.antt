@@ -1,4 +1,4 @@
--- Header, subframes and end, one behind the other. Assumes nothing.
+-- `write_planned` meets its contract: header, subframes and end, one after the other. Assumes nothing.
 use borrow.Author.Needs.{needs}
 use Rattle.output.proofs.Inking.{Good}
 use Rattle.writer.proofs.Framing.{begun-good, begun-within, frame-is}
@@ -11,18 +11,24 @@ write-header-requires c κs = search needs
 write-subframes-requires : tie.Need-write-subframes-requires
 write-subframes-requires c κs = search needs
 
--- the pen behind the subframes
+-- the pen after the subframes
 begun : (c : tie.After-write-subframes) → Good (c .write-subframes .result)
-begun c = begun-good _ _ _ (c .before .before .before .before .before .before .before .pre .4) (c .before .before .before .before .write-header .ensures) (c .write-subframes .ensures)
+begun c =
+    let h = c .before .before .before .before in
+    begun-good _ _ _ (h .before .before .before .pre .2) (h .write-header .ensures) (c .write-subframes .ensures)
 
 write-footer-requires : tie.Need-write-footer-requires
-write-footer-requires c κs = (begun (c .before .before .before) .few, begun (c .before .before .before) .low, begun-within _ _ _ (c .before .before .before .before .before .before .before .before .before .before .pre .4) (c .before .before .before .before .before .before .before .write-header .ensures) (c .before .before .before .write-subframes .ensures))
+write-footer-requires c κs =
+    let w = c .before .before .before in let h = w .before .before .before .before in
+    (begun w .few, begun w .low, begun-within _ _ _ (h .before .before .before .pre .2) (h .write-header .ensures) (w .write-subframes .ensures))
 
 same-length : tie.Need-same-length
 same-length c = search needs
 
 returns : tie.Need-returns
-returns c = frame-is _ _ _ (c .before .before .before .before .before .before .before .before .before .before .before .before .before .pre .4) (c .before .before .before .before .before .before .before .before .before .before .write-header .ensures) (c .before .before .before .before .before .before .write-subframes .ensures) (c .before .before .write-footer .ensures)
+returns c =
+    let f = c .before .before in let w = f .before .before .before .before in let h = w .before .before .before .before in
+    frame-is _ _ _ (h .before .before .before .pre .2) (h .write-header .ensures) (w .write-subframes .ensures) (f .write-footer .ensures)
 
 pub write-planned-spec : {M : Type 1} → statement M
 write-planned-spec =

@@ -1,5 +1,4 @@
--- `best_parameter` meets its contract. The loop's invariant (Offered): the whole answer is the answer from here. Assumes
--- nothing.
+-- `best_parameter` meets its contract: a turn for each parameter (Offered). Assumes nothing.
 use Prim.Native.Nat.{_+_, _-_, _*_, _^_, _≤_, _<_}
 use native.Mathlib.Omega.{arith}
 use borrow.Author.Needs.{needs}

@@ -1,20 +1,20 @@
--- `is_uniform` meets its contract. The loop's invariant (Alike): the samples passed are like the first. Assumes nothing.
+-- `is_uniform` meets its contract: a turn for each sample after the first (Alike). Assumes nothing.
 use Prim.Native.Nat.{_-_}
 use native.Mathlib.Omega.{arith}
 use mathlib.Core.Path.{ap, sym, _∙_}
 use borrow.Author.Needs.{needs}
 use mir.Syntax.{w64}
 use mir.Val.{ofZ}
-use Rattle.rfc9639.specs.Write.{stored}
+use Rattle.lanes.specs.Sources.{storedBy}
 use Rattle.choice.proofs.Uniform.{bits-tell, Alike, begin, step, out, end}
 use Rattle.choice.proofs.plain.is_uniform.Statement.{statement}
 use Rattle.choice.proofs.plain.is_uniform.Tie as tie
 
 abbrev Inv-loop : tie.InvT-loop
-Inv-loop samples n lane m first i₀ i = Alike (stored n samples lane) i
+Inv-loop samples source count first i₀ i = Alike (storedBy source samples) i
 
 abbrev μ-loop : tie.MeasureT-loop
-μ-loop samples n lane m first i₀ i = m - i
+μ-loop samples source count first i₀ i = count - i
 
 stored-len-requires : tie.Need-stored-len-requires Inv-loop μ-loop
 stored-len-requires c κs = search needs

@@ -1,11 +1,11 @@
--- `plainest` meets its contract: constant and verbatim have as many bits as the definition says. Assumes nothing.
+-- `plainest` meets its contract: constant and verbatim have the bits that the definition says. Assumes nothing.
 use Prim.Native.Nat.{_+_, _*_, _^_, _<_, min}
 use native.Mathlib.Omega.{arith}
 use mathlib.Core.Path.{_≡_, ap, _∙_}
 use borrow.Author.Needs.{needs}
 use borrow.Author.Tests.{not-true, not-false}
 use lib.ListN.{length}
-use Rattle.rfc9639.specs.Write.{stored}
+use Rattle.lanes.specs.Sources.{storedBy}
 use Rattle.rfc9639.proofs.Lengths.{stored-at-most}
 use Rattle.choice.proofs.Pricing.{plain-verbatim, plain-constant}
 use Rattle.choice.proofs.plain.plainest.Statement.{statement}
@@ -15,7 +15,7 @@ stored-len-requires : tie.Need-stored-len-requires
 stored-len-requires c κs = search needs
 
 few : (c : tie.After-stored-len) → c .stored-len .result < 2 ^ 16
-few c = let s = c .before in omega (arith, stored-at-most (s .args .n) (s .args .samples .now) (s .args .lane), c .stored-len .ensures, s .fits .n .fits)
+few c = omega (arith, stored-at-most (c .before .args .source .size) (c .before .args .samples .now) (c .before .args .source .lane), c .stored-len .ensures)
 
 plain-bits-requires : tie.Need-plain-bits-requires
 plain-bits-requires c κs = few c
@@ -27,7 +27,7 @@ module _ (c : tie.After-plain-bits) where
   abbrev s : tie.Start
   s = c .before .before
 
-  verbatim-bits : c .plain-bits .result ≡ 8 + length (stored (s .args .n) (s .args .samples .now) (s .args .lane)) * s .args .width
+  verbatim-bits : c .plain-bits .result ≡ 8 + length (storedBy (s .args .source) (s .args .samples .now)) * s .args .width
   verbatim-bits = c .plain-bits .ensures ∙ ap (λ m. 8 + m * s .args .width) (c .before .stored-len .ensures)
 
 returns : tie.Need-returns

@@ -1,4 +1,4 @@
--- `add_quotients` meets its contract. The loop's invariant (Joining): the first k sums have the residual. Assumes nothing.
+-- `add_quotients` meets its contract: a turn for each sum (Joining). Assumes nothing.
 use Prim.Native.Nat.{_-_}
 use native.Mathlib.Omega.{arith}
 use borrow.Author.Needs.{needs}

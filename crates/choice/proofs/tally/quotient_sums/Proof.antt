@@ -1,5 +1,4 @@
--- `quotient_sums` meets its contract. The loop's invariant (Tallied): the sums are those of the residuals passed. Assumes
--- nothing.
+-- `quotient_sums` meets its contract: a turn for each residual (Tallied). Assumes nothing.
 use Prim.Native.Nat.{_-_, _^_, _<_}
 use native.Mathlib.Omega.{arith}
 use mathlib.Core.Path.{_≡_, ap, _∙_}
@@ -7,16 +6,16 @@ use borrow.Author.Needs.{needs}
 use lib.ListN.{length}
 use mir.Facts.{toZ-ofZ}
 use Rattle.rfc9639.specs.Coding.{fold, fixedResiduals}
-use Rattle.rfc9639.specs.Write.{stored}
+use Rattle.lanes.specs.Sources.{storedBy}
 use Rattle.choice.proofs.Tallying.{Tallied, begin-tally, long, under, folded-small, step-tally, end-tally}
 use Rattle.choice.proofs.tally.quotient_sums.Statement.{statement}
 use Rattle.choice.proofs.tally.quotient_sums.Tie as tie
 
 abbrev Inv-loop : tie.InvT-loop
-Inv-loop samples n lane order count sums₀ j₀ sums j = Tallied (fixedResiduals order (stored n samples lane)) sums j
+Inv-loop samples source order count sums₀ j₀ sums j = Tallied (fixedResiduals order (storedBy source samples)) sums j
 
 abbrev μ-loop : tie.MeasureT-loop
-μ-loop samples n lane order count sums₀ j₀ sums j = count - j
+μ-loop samples source order count sums₀ j₀ sums j = count - j
 
 loop-holds : tie.Need-loop-holds Inv-loop μ-loop
 loop-holds c = begin-tally _
@@ -27,7 +26,7 @@ residual-requires c κs = search needs
 fold-requires : tie.Need-fold-requires Inv-loop μ-loop
 fold-requires c κs = search needs
 
-few : (c : tie.Start Inv-loop μ-loop) → length (fixedResiduals (c .args .order) (stored (c .args .n) (c .args .samples .now) (c .args .lane))) < 2 ^ 16
+few : (c : tie.Start Inv-loop μ-loop) → length (fixedResiduals (c .args .order) (storedBy (c .args .source) (c .args .samples .now))) < 2 ^ 16
 few c = omega arith
 
 module _ (c : tie.After-fold Inv-loop μ-loop) where

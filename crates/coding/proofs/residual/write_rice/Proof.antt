@@ -1,4 +1,4 @@
--- `write_rice` meets its contract: the quotient, and the remainder behind it. Assumes nothing.
+-- `write_rice` meets its contract: the quotient, then the remainder. Assumes nothing.
 use borrow.Author.Needs.{needs}
 use Rattle.reading.proofs.Spelling.{bits-unary}
 use Rattle.output.proofs.Chaining.{inked-as, first, inked-then}
@@ -9,8 +9,8 @@ use Rattle.coding.proofs.residual.write_rice.Tie as tie
 fold-requires : tie.Need-fold-requires
 fold-requires c κs = search needs
 
-quotient-requires : tie.Need-quotient-requires
-quotient-requires c κs = search needs
+shift-right-requires : tie.Need-shift-right-requires
+shift-right-requires c κs = search needs
 
 write-unary-requires : tie.Need-write-unary-requires
 write-unary-requires c κs = search needs
@@ -24,7 +24,7 @@ same-length c = search needs
 returns : tie.Need-returns
 returns c =
     let b = c .before .before in let u = b .before .before .before .before in let q = u .before in let f = q .before .before in let s = f .before .before in
-    inked-as _ _ (rice-is (s .args .k) (s .fits .r) (f .fold .ensures) (q .quotient .ensures))
+    inked-as _ _ (rice-is (s .args .k) (s .fits .r) (f .fold .ensures) (q .shift-right .ensures))
     (inked-then (first (record { bits = bits-unary _ }) (u .write-unary .ensures)) _ (b .write-bits .ensures))
 
 pub write-rice-spec : {M : Type 1} → statement M
@@ -32,7 +32,7 @@ write-rice-spec =
     tie.close
     (tie.spec
     fold-requires
-    quotient-requires
+    shift-right-requires
     write-unary-requires
     write-bits-requires
     same-length

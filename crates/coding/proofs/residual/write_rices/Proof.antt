@@ -6,7 +6,7 @@ use borrow.Author.Needs.{needs}
 use lib.IntN.{pos}
 use mir.Facts.{toZ-ofZ}
 use Rattle.rfc9639.specs.Coding.{riceBits, fixedResiduals}
-use Rattle.rfc9639.specs.Write.{stored}
+use Rattle.lanes.specs.Sources.{storedBy}
 use Rattle.rfc9639.proofs.Lengths.{length-fixedResiduals}
 use Rattle.rfc9639.proofs.Whole.{bits-rice}
 use Rattle.output.proofs.Rows.{Unwritten, begin, step, end}
@@ -14,16 +14,16 @@ use Rattle.coding.proofs.residual.write_rices.Statement.{statement}
 use Rattle.coding.proofs.residual.write_rices.Tie as tie
 
 abbrev Inv-loop : tie.InvT-loop
-Inv-loop samples n lane order k out₀ count p₀ j₀ out p j = Unwritten (riceBits k) (fixedResiduals order (stored n samples lane)) p₀ out₀ j p out
+Inv-loop samples source order k out₀ count p₀ j₀ out p j = Unwritten (riceBits k) (fixedResiduals order (storedBy source samples)) p₀ out₀ j p out
 
 abbrev μ-loop : tie.MeasureT-loop
-μ-loop samples n lane order k out₀ count p₀ j₀ out p j = count - j
+μ-loop samples source order k out₀ count p₀ j₀ out p j = count - j
 
 stored-len-requires : tie.Need-stored-len-requires Inv-loop μ-loop
 stored-len-requires c κs = search needs
 
-rest-requires : tie.Need-rest-requires Inv-loop μ-loop
-rest-requires c κs = search needs
+saturating-sub-requires : tie.Need-saturating-sub-requires Inv-loop μ-loop
+saturating-sub-requires c κs = search needs
 
 loop-holds : tie.Need-loop-holds Inv-loop μ-loop
 loop-holds c = begin _ _
@@ -59,7 +59,7 @@ write-rices-spec =
     Inv-loop
     μ-loop
     stored-len-requires
-    rest-requires
+    saturating-sub-requires
     loop-holds
     residual-requires
     write-rice-requires

@@ -1,7 +1,7 @@
--- `side` meets its contract: the difference of two i32 fits 33 bits. Assumes nothing.
+-- `side` meets its contract: the difference is exact at 64 bits. Assumes nothing.
 use Rattle.rfc9639.specs.Write.{sideOf}
-use Rattle.rfc9639.proofs.Machine.{widen-fits, combined-fits, combined}
-use Rattle.lanes.proofs.Storing.{side-fits}
+use Rattle.rfc9639.proofs.Machine.{widen-fits}
+use Rattle.number.proofs.ExactSums.{difference-fits-64, difference-exact}
 use Rattle.lanes.proofs.sample.side.Statement.{statement}
 use Rattle.lanes.proofs.sample.side.Tie as tie
 
@@ -12,12 +12,11 @@ cast-result-2 : tie.Need-cast-result-2
 cast-result-2 c = widen-fits (c .fits .right)
 
 sub-result : tie.Need-sub-result
-unfolding sideOf
-sub-result c = combined-fits (c .fits .left) (c .fits .right) sideOf (side-fits (c .fits .left) (c .fits .right))
+sub-result c = difference-fits-64 (c .fits .left) (c .fits .right)
 
 returns : tie.Need-returns
 unfolding sideOf
-returns c = combined (c .fits .left) (c .fits .right) sideOf (side-fits (c .fits .left) (c .fits .right))
+returns c = difference-exact (c .fits .left) (c .fits .right)
 
 pub side-spec : {M : Type 1} → statement M
 side-spec = tie.close (tie.spec cast-result cast-result-2 sub-result returns)

@@ -1,4 +1,4 @@
--- Sample after sample: those from here on decide. Assumes nothing.
+-- `all_fit` meets its contract: a turn for each sample. Assumes nothing.
 use Prim.Native.Nat.{_-_, _≤_}
 use borrow.Author.Needs.{needs}
 use mathlib.Core.Path.{_≡_, refl, sym, _∙_}

@@ -1,4 +1,4 @@
--- A sample fits where its folded form is below the power. Assumes nothing.
+-- `does_fit` meets its contract: a sample fits where its folded form is below the power of two. Assumes nothing.
 use borrow.Author.Needs.{needs}
 use native.Mathlib.Omega.{arith}
 use mathlib.Core.Path.{sym, _∙_, ap, ap₂}

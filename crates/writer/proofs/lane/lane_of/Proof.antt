@@ -1,4 +1,4 @@
--- What a subframe stores, test by test as in the definition. Assumes nothing.
+-- `lane_of` meets its contract, test by test as in the definition. Assumes nothing.
 use borrow.Author.Tests.{lt-ltb, le-ltb, ne-eqb}
 use mathlib.Core.Path.{refl}
 use Rattle.rfc9639.specs.HeaderCodes.{assignment}

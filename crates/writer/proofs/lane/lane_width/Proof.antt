@@ -1,4 +1,4 @@
--- A subframe's width, by what it stores. Assumes nothing.
+-- `lane_width` meets its contract, lane by lane. Assumes nothing.
 use borrow.Author.Needs.{needs}
 use mathlib.Core.Path.{refl}
 use Rattle.rfc9639.specs.Write.{laneWidth}

@@ -1,14 +1,14 @@
--- The choice for a subframe is that for its lane. Assumes nothing.
+-- `choose_lane` meets its contract: the choice for a subframe is that for its lane. Assumes nothing.
 use borrow.Author.Needs.{needs}
 use Rattle.writer.proofs.Planning.{chosen-lane}
 use Rattle.writer.proofs.plan.choose_lane.Statement.{statement}
 use Rattle.writer.proofs.plan.choose_lane.Tie as tie
 
+cast-size : tie.Need-cast-size
+cast-size c = search needs
+
 lane-of-requires : tie.Need-lane-of-requires
 lane-of-requires c κs = search needs
-
-cast-choose : tie.Need-cast-choose
-cast-choose c = search needs
 
 lane-width-requires : tie.Need-lane-width-requires
 lane-width-requires c κs = search needs
@@ -21,4 +21,4 @@ returns c = chosen-lane _ _ _ (c .choose .ensures) (c .before .lane-width .ensur
 
 pub choose-lane-spec : {M : Type 1} → statement M
 choose-lane-spec =
-    tie.close (tie.spec lane-of-requires cast-choose lane-width-requires choose-requires returns)
+    tie.close (tie.spec cast-size lane-of-requires lane-width-requires choose-requires returns)

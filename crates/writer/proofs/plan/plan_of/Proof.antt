@@ -1,19 +1,20 @@
--- The choices and their bits, one after the other. Assumes nothing.
-use Prim.Native.Nat.{_-_}
+-- `plan_of` meets its contract: a turn for each subframe (Planned, Counted). Assumes nothing.
+use Prim.Native.Nat.{_+_, _-_}
 use native.Mathlib.Omega.{arith}
 use borrow.Author.Needs.{needs}
 use mathlib.Core.Path.{refl}
 use Rattle.rfc9639.specs.HeaderCodes.{assignment}
-use Rattle.rfc9639.specs.Write.{laneOf}
 use Rattle.rfc9639.proofs.Listing.{channels-between}
-use Rattle.writer.specs.Private.{laneChoice}
+use Rattle.writer.specs.Private.{laneChoice, subframeLane}
 use Rattle.writer.proofs.Planning.{Planned, begin, step, at-end, planned-all}
 use Rattle.writer.proofs.Counting.{Counted, counted-none, counted-more, counted-all}
 use Rattle.writer.proofs.plan.plan_of.Statement.{statement}
 use Rattle.writer.proofs.plan.plan_of.Tie as tie
 
 abbrev Inv-loop : tie.InvT-loop
-Inv-loop samples set channels count choices₀ bits₀ c₀ choices bits c = Planned (λ i. laneChoice (set .bits) (set .size) samples (laneOf (assignment (set .channels)) i)) count choices c × Counted (set .bits) (set .size) samples (assignment (set .channels)) bits c
+Inv-loop samples set channels count choices₀ bits₀ c₀ choices bits c =
+    Planned (λ i. laneChoice (set .bits) (set .size) samples (subframeLane set i)) count choices c
+    × Counted (set .bits) (set .size) samples (assignment (set .channels)) bits c
 
 abbrev μ-loop : tie.MeasureT-loop
 μ-loop samples set channels count choices₀ bits₀ c₀ choices bits c = count - c
@@ -25,31 +26,45 @@ loop-holds : tie.Need-loop-holds Inv-loop μ-loop
 loop-holds c = (begin _ _ (rw (c .channel-count .ensures) (channels-between _ .1)) _ refl, counted-none _ _ _ _)
 
 cast-choose-lane : tie.Need-cast-choose-lane Inv-loop μ-loop
-cast-choose-lane c = record { fits = omega (arith, c .before .loop .inv .0 .few, c .before .loop .inv .0 .within) }
+cast-choose-lane c = search needs
 
 choose-lane-requires : tie.Need-choose-lane-requires Inv-loop μ-loop
 choose-lane-requires c κs = search needs
 
 mul-choices : tie.Need-mul-choices Inv-loop μ-loop
-mul-choices c = record { fits = omega (arith, c .before .before .loop .inv .0 .few, c .before .before .loop .inv .0 .within) }
+mul-choices c = search needs
 
 array-set-from-choices : tie.Need-array-set-from-choices Inv-loop μ-loop
-array-set-from-choices c = omega (arith, c .before .before .loop .inv .0 .few, c .before .loop-test .taken)
+array-set-from-choices c = search needs
+
+counted : (c : tie.After-choose-lane Inv-loop μ-loop)
+    → let l = c .before .before in let set = l .before .before .args .set in
+    Counted (set .bits) (set .size) (l .before .before .args .samples .now) (assignment (set .channels)) (l .loop .bits + c .choose-lane .result .bits) (l .loop .c + 1)
+counted c =
+    let l = c .before .before in let r = l .before .before .pre in
+    counted-more _ _ _ _ (l .loop .inv .1) (r .1) (r .2) (c .choose-lane .ensures)
 
 add-bits : tie.Need-add-bits Inv-loop μ-loop
-add-bits c = record { fits = omega (arith, counted-more _ _ _ _ (c .before .before .before .loop .inv .1) (c .before .before .before .before .before .pre .1) (c .before .before .before .before .before .pre .2) (c .before .choose-lane .ensures) .small, c .before .before .before .loop .inv .0 .few, c .before .before .loop-test .taken) }
+add-bits c = record { fits = omega (arith, counted (c .before) .small) }
 
 add-c : tie.Need-add-c Inv-loop μ-loop
-add-c c = record { fits = omega (arith, c .before .before .before .loop .inv .0 .few, c .before .before .before .loop .inv .0 .within) }
+add-c c = search needs
 
 loop-less : tie.Need-loop-less Inv-loop μ-loop
 loop-less c = search needs
 
 loop-again : tie.Need-loop-again Inv-loop μ-loop
-loop-again c = (step _ _ (c .before .before .before .loop .inv .0) (c .before .before .loop-test .taken) _ (c .before .choose-lane .ensures), counted-more _ _ _ _ (c .before .before .before .loop .inv .1) (c .before .before .before .before .before .pre .1) (c .before .before .before .before .before .pre .2) (c .before .choose-lane .ensures))
+loop-again c =
+    let i = c .before .before in
+    (step _ _ (i .before .loop .inv .0) (i .loop-test .taken) _ (c .before .choose-lane .ensures), counted (c .before))
 
 returns : tie.Need-returns Inv-loop μ-loop
-returns c = (planned-all _ _ _ _ (c .before .loop .inv .0) (c .loop-test .left) (c .before .before .channel-count .ensures), counted-all _ _ (c .before .loop .inv .1) (at-end _ _ (c .before .loop .inv .0) (c .loop-test .left)) (c .before .before .channel-count .ensures), omega (arith, c .before .loop .inv .0 .few, c .before .loop .inv .0 .within, c .before .loop .inv .1 .small))
+returns c =
+    let l = c .before in let n = l .before .channel-count .ensures in (
+      planned-all _ _ _ _ (l .loop .inv .0) (c .loop-test .left) n,
+      counted-all _ _ (l .loop .inv .1) (at-end _ _ (l .loop .inv .0) (c .loop-test .left)) n,
+      omega (arith, l .loop .inv .0 .few, l .loop .inv .0 .within, l .loop .inv .1 .small),
+    )
 
 pub plan-of-spec : {M : Type 1} → statement M
 plan-of-spec =

@@ -1,13 +1,13 @@
--- The subframes, one after the other, each as it was planned. Assumes nothing.
-use Prim.Native.Nat.{_-_, _≤_}
+-- `write_subframes` meets its contract: a turn for each subframe, as planned (Rows). Assumes nothing.
+use Prim.Native.Nat.{_-_, _≤_, _<_}
 use native.Mathlib.Omega.{arith}
+use mathlib.Core.Path.{sym}
 use borrow.Author.Needs.{needs}
-use Rattle.rfc9639.specs.HeaderCodes.{assignment}
+use Rattle.rfc9639.specs.HeaderCodes.{assignment, channelCount}
 use Rattle.rfc9639.specs.Write.{lanes, laneBits, subframesBits}
 use Rattle.rfc9639.proofs.Listing.{length-lanes, channels-between}
 use Rattle.output.proofs.Rows.{Unwritten, begin, end}
 use Rattle.writer.proofs.Laning.{planned-at, lane-next}
-use mathlib.Core.Path.{sym}
 use Rattle.writer.proofs.subframes.write_subframes.Statement.{statement}
 use Rattle.writer.proofs.subframes.write_subframes.Tie as tie
 
@@ -24,25 +24,28 @@ loop-holds : tie.Need-loop-holds Inv-loop μ-loop
 loop-holds c = (rw (c .channel-count .ensures) (channels-between _ .1), omega arith, begin _ _)
 
 mul-choice : tie.Need-mul-choice Inv-loop μ-loop
-mul-choice c = record { fits = omega (arith, c .before .loop .inv .0, c .before .loop .inv .1) }
+mul-choice c = search needs
 
 array-copy-out-choice : tie.Need-array-copy-out-choice Inv-loop μ-loop
-array-copy-out-choice c = omega (arith, c .before .loop .inv .0, c .loop-test .taken)
+array-copy-out-choice c = search needs
 
 cast-write-lane : tie.Need-cast-write-lane Inv-loop μ-loop
-cast-write-lane c = record { fits = omega (arith, c .before .before .loop .inv .0, c .before .before .loop .inv .1) }
+cast-write-lane c = search needs
 
 write-lane-requires : tie.Need-write-lane-requires Inv-loop μ-loop
 write-lane-requires c κs = search needs
 
 add-c : tie.Need-add-c Inv-loop μ-loop
-add-c c = record { fits = omega (arith, c .before .before .before .before .before .before .loop .inv .0, c .before .before .before .before .before .before .loop .inv .1) }
+add-c c = search needs
 
 loop-less : tie.Need-loop-less Inv-loop μ-loop
 loop-less c = search needs
 
 loop-again : tie.Need-loop-again Inv-loop μ-loop
-loop-again c = (c .before .before .before .before .before .before .loop .inv .0, omega (arith, c .before .before .before .before .before .loop-test .taken), lane-next _ _ _ _ (c .before .before .before .before .before .before .loop .inv .2) (rw (sym (c .before .before .before .before .before .before .before .channel-count .ensures)) (c .before .before .before .before .before .loop-test .taken)) (planned-at _ _ _ _ _ (c .before .before .before .before .before .before .before .before .before .pre .3) _ _ (rw (sym (c .before .before .before .before .before .before .before .channel-count .ensures)) (c .before .before .before .before .before .loop-test .taken))) (c .before .before .write-lane .ensures))
+loop-again c =
+    let w = c .before .before in let i = w .before .before .before in let l = i .before in let n = l .before in
+    let more : l .loop .c < channelCount (assignment (n .before .before .args .set .channels)) = omega (arith, n .channel-count .ensures) in
+    (l .loop .inv .0, omega arith, lane-next _ _ _ _ (l .loop .inv .2) more (planned-at _ _ _ _ _ (n .before .before .pre .1) _ _ more) (w .write-lane .ensures))
 
 same-length : tie.Need-same-length Inv-loop μ-loop
 same-length c = c .before .loop .inv .2 .long

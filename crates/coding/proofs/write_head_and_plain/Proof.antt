@@ -1,9 +1,9 @@
--- `write_start` meets its contract: the header, and samples behind it. Assumes nothing.
+-- `write_head_and_plain` meets its contract: the header, then samples. Assumes nothing.
 use borrow.Author.Needs.{needs}
 use Rattle.rfc9639.proofs.Whole.{bits-head}
 use Rattle.output.proofs.Chaining.{first, inked-then}
-use Rattle.coding.proofs.write_start.Statement.{statement}
-use Rattle.coding.proofs.write_start.Tie as tie
+use Rattle.coding.proofs.write_head_and_plain.Statement.{statement}
+use Rattle.coding.proofs.write_head_and_plain.Tie as tie
 
 write-head-requires : tie.Need-write-head-requires
 write-head-requires c κs = search needs
@@ -19,6 +19,6 @@ returns c =
     let w = c .before .before in
     inked-then (first (bits-head _) (w .before .before .before .before .write-head .ensures)) _ (w .write-plain .ensures)
 
-pub write-start-spec : {M : Type 1} → statement M
-write-start-spec =
+pub write-head-and-plain-spec : {M : Type 1} → statement M
+write-head-and-plain-spec =
     tie.close (tie.spec write-head-requires write-plain-requires same-length returns)
