@@ -51,14 +51,14 @@ module _ (f : ℤ → ℤ → ℤ) (xs ys ks : List ℤ) (i : ℕ) where
 
 -- ---- both sides: a slice of two channels held l₀ and now holds l, with i pairs joined
 
-pub record Joining (f g : ℤ → ℤ → ℤ) (n : ℕ) (l₀ l : List ℤ) (i : ℕ) : Type 0 where
+pub record PairsJoined (f g : ℤ → ℤ → ℤ) (n : ℕ) (l₀ l : List ℤ) (i : ℕ) : Type 0 where
   pub within : i ≤ n
   pub long : length l ≡ 2 * n
   pub left : pairwise f (take n l₀) (drop n l₀) ≡ side f (take n l) (drop n l) (take n l) i
   pub right : pairwise g (take n l₀) (drop n l₀) ≡ side g (take n l) (drop n l) (drop n l) i
 
 module _ (n : ℕ) (l : List ℤ) (h : length l ≡ 2 * n) where
-  pub begin : (f g : ℤ → ℤ → ℤ) → Joining f g n l l 0
+  pub begin : (f g : ℤ → ℤ → ℤ) → PairsJoined f g n l l 0
   unfolding side
   begin f g = record { within = omega arith; long = h; left = refl; right = refl }
 
@@ -81,7 +81,7 @@ pub joined-mid : (n : ℕ) (l : List ℤ) → pairwise leftOfMid (take n l) (dro
 unfolding joined
 joined-mid n l = refl
 
-module _ {f g : ℤ → ℤ → ℤ} {n : ℕ} {l₀ l : List ℤ} {i : ℕ} (inv : Joining f g n l₀ l i) where
+module _ {f g : ℤ → ℤ → ℤ} {n : ℕ} {l₀ l : List ℤ} {i : ℕ} (inv : PairsJoined f g n l₀ l i) where
   pub end : n ≤ i → l ≡ pairwise f (take n l₀) (drop n l₀) ++ pairwise g (take n l₀) (drop n l₀)
   end h =
       sym
@@ -100,7 +100,7 @@ module _ {f g : ℤ → ℤ → ℤ} {n : ℕ} {l₀ l : List ℤ} {i : ℕ} (in
     abbrev y : ℤ
     y = getD l (n + i) (pos 0)
 
-    step : (a b : ℤ) → a ≡ f x y → b ≡ g x y → Joining f g n l₀ (set (set l i a) (n + i) b) (i + 1)
+    step : (a b : ℤ) → a ≡ f x y → b ≡ g x y → PairsJoined f g n l₀ (set (set l i a) (n + i) b) (i + 1)
     step a b p q = record {
       within = omega arith;
       long = simp length-set (inv .long);
@@ -131,22 +131,22 @@ bits32 z = toZ w32 (ofZ w32 z)
 abbrev pub bits64 : ℤ → ℤ
 bits64 z = toZ w64 (ofZ w64 z)
 
-module _ {f g : ℤ → ℤ → ℤ} {n : ℕ} {l₀ l : List ℤ} {i : ℕ} (inv : Joining f g n l₀ l i) (h : i < n) (fx : SFits w32 (getD l i (pos 0))) (fy : SFits w32 (getD l (n + i) (pos 0))) where
+module _ {f g : ℤ → ℤ → ℤ} {n : ℕ} {l₀ l : List ℤ} {i : ℕ} (inv : PairsJoined f g n l₀ l i) (h : i < n) (fx : SFits w32 (getD l i (pos 0))) (fy : SFits w32 (getD l (n + i) (pos 0))) where
   kept : (e : ℤ → ℤ → ℤ) (z : ℤ) → SFits w32 z → z ≡ e (bits32 (getD l i (pos 0))) (bits32 (getD l (n + i) (pos 0))) → bits32 z ≡ e (getD l i (pos 0)) (getD l (n + i) (pos 0))
   kept e z fz p = toZ-ofZ fz ∙ p ∙ ap₂ e (toZ-ofZ fx) (toZ-ofZ fy)
 
   pub step-both : (a b : ℤ) → SFits w32 a → a ≡ f (bits32 (getD l i (pos 0))) (bits32 (getD l (n + i) (pos 0)))
-      → SFits w32 b → b ≡ g (bits32 (getD l i (pos 0))) (bits32 (getD l (n + i) (pos 0))) → Joining f g n l₀ (set (set l i (bits32 a)) (n + i) (bits32 b)) (i + 1)
+      → SFits w32 b → b ≡ g (bits32 (getD l i (pos 0))) (bits32 (getD l (n + i) (pos 0))) → PairsJoined f g n l₀ (set (set l i (bits32 a)) (n + i) (bits32 b)) (i + 1)
   step-both a b fa p fb q = step inv h (bits32 a) (bits32 b) (kept f a fa p) (kept g b fb q)
 
 -- a turn that keeps the left sample, or the right
 module _ {e : ℤ → ℤ → ℤ} {n : ℕ} {l₀ l : List ℤ} {i : ℕ} where
-  pub step-right : Joining first e n l₀ l i → i < n → SFits w32 (getD l i (pos 0)) → SFits w32 (getD l (n + i) (pos 0))
-      → (b : ℤ) → SFits w32 b → b ≡ e (bits32 (getD l i (pos 0))) (bits32 (getD l (n + i) (pos 0))) → Joining first e n l₀ (set l (n + i) (bits32 b)) (i + 1)
+  pub step-right : PairsJoined first e n l₀ l i → i < n → SFits w32 (getD l i (pos 0)) → SFits w32 (getD l (n + i) (pos 0))
+      → (b : ℤ) → SFits w32 b → b ≡ e (bits32 (getD l i (pos 0))) (bits32 (getD l (n + i) (pos 0))) → PairsJoined first e n l₀ (set l (n + i) (bits32 b)) (i + 1)
   step-right inv h fx fy b fb q = rw set-getD at (step inv h (getD l i (pos 0)) (bits32 b) refl (kept inv h fx fy e b fb q))
 
-  pub step-left : Joining e second n l₀ l i → i < n → SFits w32 (getD l i (pos 0)) → SFits w32 (getD l (n + i) (pos 0))
-      → (a : ℤ) → SFits w32 a → a ≡ e (bits32 (getD l i (pos 0))) (bits32 (getD l (n + i) (pos 0))) → Joining e second n l₀ (set l i (bits32 a)) (i + 1)
+  pub step-left : PairsJoined e second n l₀ l i → i < n → SFits w32 (getD l i (pos 0)) → SFits w32 (getD l (n + i) (pos 0))
+      → (a : ℤ) → SFits w32 a → a ≡ e (bits32 (getD l i (pos 0))) (bits32 (getD l (n + i) (pos 0))) → PairsJoined e second n l₀ (set l i (bits32 a)) (i + 1)
   step-left inv h fx fy a fa p =
       rw set-getD at
       (step inv h (bits32 a) (getD (set l i (bits32 a)) (n + i) (pos 0)) (kept inv h fx fy e a fa p) (getD-set-other l i (n + i) (bits32 a) (pos 0) (λ d. omega arith)))

@@ -4,12 +4,12 @@ use native.Mathlib.Omega.{arith}
 use mathlib.Core.Path.{_∙_}
 use borrow.Author.Needs.{needs}
 use Rattle.rfc9639.specs.Stereo.{rightOf}
-use Rattle.frame.proofs.Joining.{first, Joining, begin, step-right, end, joined-left}
+use Rattle.frame.proofs.Joining.{first, PairsJoined, begin, step-right, end, joined-left}
 use Rattle.frame.proofs.stereo.decode_left_side.Statement.{statement}
 use Rattle.frame.proofs.stereo.decode_left_side.Tie as tie
 
 abbrev Inv-loop : tie.InvT-loop
-Inv-loop n out₀ i₀ out i = Joining first rightOf n out₀ out i
+Inv-loop n out₀ i₀ out i = PairsJoined first rightOf n out₀ out i
 
 abbrev μ-loop : tie.MeasureT-loop
 μ-loop n out₀ i₀ out i = n - i

@@ -5,12 +5,12 @@ use mathlib.Core.Path.{_∙_}
 use borrow.Author.Needs.{needs}
 use lib.ListN.{length-set}
 use Rattle.rfc9639.specs.Stereo.{leftOfMid, rightOfMid}
-use Rattle.frame.proofs.Joining.{Joining, begin, step-both, end, joined-mid}
+use Rattle.frame.proofs.Joining.{PairsJoined, begin, step-both, end, joined-mid}
 use Rattle.frame.proofs.stereo.decode_mid_side.Statement.{statement}
 use Rattle.frame.proofs.stereo.decode_mid_side.Tie as tie
 
 abbrev Inv-loop : tie.InvT-loop
-Inv-loop n out₀ i₀ out i = Joining leftOfMid rightOfMid n out₀ out i
+Inv-loop n out₀ i₀ out i = PairsJoined leftOfMid rightOfMid n out₀ out i
 
 abbrev μ-loop : tie.MeasureT-loop
 μ-loop n out₀ i₀ out i = n - i

@@ -4,12 +4,12 @@ use native.Mathlib.Omega.{arith}
 use mathlib.Core.Path.{_∙_}
 use borrow.Author.Needs.{needs}
 use Rattle.rfc9639.specs.Stereo.{leftOf}
-use Rattle.frame.proofs.Joining.{second, Joining, begin, step-left, end, joined-right}
+use Rattle.frame.proofs.Joining.{second, PairsJoined, begin, step-left, end, joined-right}
 use Rattle.frame.proofs.stereo.decode_right_side.Statement.{statement}
 use Rattle.frame.proofs.stereo.decode_right_side.Tie as tie
 
 abbrev Inv-loop : tie.InvT-loop
-Inv-loop n out₀ i₀ out i = Joining leftOf second n out₀ out i
+Inv-loop n out₀ i₀ out i = PairsJoined leftOf second n out₀ out i
 
 abbrev μ-loop : tie.MeasureT-loop
 μ-loop n out₀ i₀ out i = n - i
