@@ -22,7 +22,7 @@ use Rattle.output.specs.Ink.{State, inked, Writes}
 use Rattle.coding.specs.Ways.{writtenAs}
 use Rattle.coding.proofs.Pieces.{written-some}
 use Rattle.output.proofs.Rows.{Unwritten, step}
-use Rattle.writer.specs.Private.{laneCodedAs, laneChoice}
+use Rattle.writer.specs.Private.{codedLane, laneChoice}
 
 module _ (a : ChannelAssignment) where
   -- the choice that is planned for subframe c
@@ -35,22 +35,22 @@ module _ (a : ChannelAssignment) where
 -- ---- one subframe
 
 pub lane-written : (c : Candidate) (b n : ℕ) (xs : List ℤ) (p : Pen) (s : List ℕ) {x : State} {w : ℕ} {lane lane′ : Lane} → b ≤ 24
-    → x ≡ inked (writtenAs c w (stored n xs lane)) p s → w ≡ laneWidth b lane → lane ≡ lane′ → x ≡ inked (laneCodedAs c b n xs lane′) p s
+    → x ≡ inked (writtenAs c w (stored n xs lane)) p s → w ≡ laneWidth b lane → lane ≡ lane′ → x ≡ inked (codedLane c b n xs lane′) p s
 lane-written c b n xs p s {x} {w} {lane} {lane′} h e f g =
     e ∙ ap (λ v. inked (writtenAs c v (stored n xs lane)) p s) f
     ∙ ap (λ l. inked l p s) (written-some c (laneWidth b lane) (stored n xs lane) (let k = width-within b lane in omega arith))
-    ∙ ap (λ l. inked (laneCodedAs c b n xs l) p s) g
+    ∙ ap (λ l. inked (codedLane c b n xs l) p s) g
 
 module _ (a : ChannelAssignment) (b n : ℕ) (xs : List ℤ) where
-  coded-lane : (lane : Lane) → laneCodedAs (laneChoice b n xs lane .candidate) b n xs lane ≡ laneBits b n xs lane
+  coded-lane : (lane : Lane) → codedLane (laneChoice b n xs lane .candidate) b n xs lane ≡ laneBits b n xs lane
   unfolding laneChoice choiceOf laneBits subframeBits
   coded-lane lane = refl
 
   -- the next subframe, as planned
   pub lane-next : {p₀ : Pen} {s₀ : List ℕ} {c : ℕ} {p : Pen} {s : List ℕ} → Unwritten (laneBits b n xs) (lanes a) p₀ s₀ c p s → c < channelCount a
       → {choice : Choice} → choice ≡ laneChoice b n xs (laneOf a c) → {q : Pen} {t : List ℕ}
-      → Writes (laneCodedAs (choice .candidate) b n xs (laneOf a c)) p s q t
+      → Writes (codedLane (choice .candidate) b n xs (laneOf a c)) p s q t
       → Unwritten (laneBits b n xs) (lanes a) p₀ s₀ (c + 1) q t
   lane-next {p₀} {s₀} {c} {p} {s} u h {choice} e f =
       step u Mid {y = laneOf a c} (omega (arith, length-lanes a)) (sym (lane-at a c Mid h)) (bits-lane b n xs (laneOf a c))
-      (f ∙ ap (λ (k : Choice). inked (laneCodedAs (k .candidate) b n xs (laneOf a c)) p s) e ∙ ap (λ l. inked l p s) (coded-lane (laneOf a c)))
+      (f ∙ ap (λ (k : Choice). inked (codedLane (k .candidate) b n xs (laneOf a c)) p s) e ∙ ap (λ l. inked l p s) (coded-lane (laneOf a c)))

@@ -1,10 +1,10 @@
--- What the writer plans for each subframe, and the end of a frame. Only contracts of private functions name it, so nobody has
--- to believe it.
-use Prim.Native.Nat.{ℕ, _-_, _%_, _≤_}
+-- What the writer plans for each subframe, and the end of a frame. Only contracts of private functions name it, so nobody
+-- has to believe it.
+use Prim.Native.Nat.{ℕ, _-_, _%_, _^_, _≤_}
 use mathlib.Core.Path.{_≡_}
 use mathlib.Core.List.{List, map}
 use lib.IntN.{ℤ}
-use lib.ListN.{take}
+use lib.ListN.{length, take}
 use Rattle.reading.specs.Bytes.{bitsOfBytes}
 use Rattle.reading.specs.Spelling.{bitsOf}
 use Rattle.rfc9639.specs.declared.Candidate.{Candidate}
@@ -13,7 +13,7 @@ use Rattle.rfc9639.specs.declared.Lane.{Lane}
 use Rattle.rfc9639.specs.HeaderCodes.{assignment, channelCount, largestBlockSize}
 use Rattle.rfc9639.specs.Coding.{codedAs}
 use Rattle.rfc9639.specs.CheckSums.{crc16}
-use Rattle.rfc9639.specs.Write.{laneOf, lanes, laneWidth, stored}
+use Rattle.rfc9639.specs.Write.{laneOf, lanes, laneWidth, stored, subframesBits}
 use Rattle.output.specs.declared.Pen.{Pen}
 use Rattle.output.specs.Ink.{State, inked}
 use Rattle.choice.specs.declared.Choice.{Choice}
@@ -26,12 +26,12 @@ InRange set = (set .channels ≤ 10) × (set .bits ≤ 24) × (set .size ≤ lar
 -- ---- each subframe
 
 -- what subframe c stores
-abbrev pub subframeLane : FrameSetting → ℕ → Lane
-subframeLane set c = laneOf (assignment (set .channels)) c
+abbrev pub laneFor : FrameSetting → ℕ → Lane
+laneFor set c = laneOf (assignment (set .channels)) c
 
 -- what a lane stores, coded in a given way
-abbrev pub laneCodedAs : Candidate → ℕ → ℕ → List ℤ → Lane → List ℕ
-laneCodedAs candidate b n xs lane = codedAs candidate (laneWidth b lane) (stored n xs lane)
+abbrev pub codedLane : Candidate → ℕ → ℕ → List ℤ → Lane → List ℕ
+codedLane candidate b n xs lane = codedAs candidate (laneWidth b lane) (stored n xs lane)
 
 -- the choice for what a lane stores
 unfoldable pub laneChoice : ℕ → ℕ → List ℤ → Lane → Choice
@@ -41,6 +41,10 @@ laneChoice b n xs lane = choiceOf (laneWidth b lane) (stored n xs lane)
 abbrev pub LaneChoices : FrameSetting → List ℤ → List Choice → Type 0
 LaneChoices set xs choices =
     take (channelCount (assignment (set .channels))) choices ≡ map (laneChoice (set .bits) (set .size) xs) (lanes (assignment (set .channels)))
+
+-- those choices, and the bits of all subframes
+abbrev pub Plans : FrameSetting → List ℤ → List Choice → ℕ → Type 0
+Plans set xs choices bits = LaneChoices set xs choices × (bits ≡ length (subframesBits set xs)) × (bits ≤ 2 ^ 25)
 
 -- ---- the end of a frame (RFC 9639 section 9.3)
 

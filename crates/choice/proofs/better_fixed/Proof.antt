@@ -1,4 +1,4 @@
--- `better_fixed` meets its contract: its head and the sums of the quotients make the bits of the definition. Assumes nothing.
+-- `better_fixed` meets its contract: it counts each candidate's bits as the definition does. Assumes nothing.
 use Prim.Native.Nat.{_+_, _-_, _*_, _^_, _<_}
 use native.Mathlib.Omega.{arith}
 use mathlib.Core.Path.{_≡_, ap, sym, _∙_}

@@ -5,7 +5,7 @@ use borrow.Author.Needs.{needs}
 use mathlib.Core.Path.{refl}
 use Rattle.rfc9639.specs.HeaderCodes.{assignment}
 use Rattle.rfc9639.proofs.Listing.{channels-between}
-use Rattle.writer.specs.Private.{laneChoice, subframeLane}
+use Rattle.writer.specs.Private.{laneChoice, laneFor}
 use Rattle.writer.proofs.Planning.{Planned, begin, step, at-end, planned-all}
 use Rattle.writer.proofs.Counting.{Counted, counted-none, counted-more, counted-all}
 use Rattle.writer.proofs.plan.plan_of.Statement.{statement}
@@ -13,7 +13,7 @@ use Rattle.writer.proofs.plan.plan_of.Tie as tie
 
 abbrev Inv-loop : tie.InvT-loop
 Inv-loop samples set channels count choices₀ bits₀ c₀ choices bits c =
-    Planned (λ i. laneChoice (set .bits) (set .size) samples (subframeLane set i)) count choices c
+    Planned (λ i. laneChoice (set .bits) (set .size) samples (laneFor set i)) count choices c
     × Counted (set .bits) (set .size) samples (assignment (set .channels)) bits c
 
 abbrev μ-loop : tie.MeasureT-loop
