@@ -1,4 +1,4 @@
--- Laws of the check sums, for this crate's functions and for callers that sum a list in parts.
+-- Laws of the check sums.
 pub mod Xor
 pub mod Sums
 pub mod Entries
