@@ -13,7 +13,7 @@ use Rattle.rfc9639.specs.Coding.{uniform, counting, fixedOnes, candidates, fewe
 use Rattle.rfc9639.proofs.Choosing.{fewestOf-append}
 use Rattle.choice.specs.declared.Choice.{Choice}
 use Rattle.choice.specs.Choices.{choiceOf}
-use Rattle.choice.specs.Private.{priced, pricedFixed, weight, plainestOf}
+use Rattle.choice.specs.Private.{priced, pricedFixed, weight, bestPlain}
 use Rattle.choice.proofs.Pricing.{fewest-priced}
 
 -- how many orders there are
@@ -26,8 +26,8 @@ module _ (w : ℕ) (xs : List ℤ) where
     pub within : order ≤ limit xs
     pub rest : choiceOf w xs ≡ fewestOf weight best (map (priced w xs) (fixedOnes (counting order (limit xs - order))))
 
-  pub begin : {best : Choice} → best ≡ plainestOf w xs → Judged best 0
-  unfolding choiceOf chosen candidates plainestOf priced fewest fewestOf
+  pub begin : {best : Choice} → best ≡ bestPlain w xs → Judged best 0
+  unfolding choiceOf chosen candidates bestPlain priced fewest fewestOf
   begin {best} e = record {
     within = omega arith;
     rest =

@@ -1,5 +1,4 @@
 -- Laws for the proofs of the choice, and that it has one outcome.
-pub mod Sizes
 pub mod Uniform
 pub mod Tallying
 pub mod Offering

@@ -12,11 +12,11 @@ use Rattle.rfc9639.specs.declared.Candidate.the-variants.{Constant, Verbatim, F
 use Rattle.rfc9639.specs.Coding.{fold, fixedResiduals, uniform, counting, fewestOf, cost}
 use Rattle.rfc9639.proofs.Costs.{quotients, cost-constant, cost-verbatim, cost-fixed}
 use Rattle.choice.specs.declared.Choice.{Choice}
-use Rattle.choice.specs.Private.{priced, pricedFixed, weight, plainestOf, sumBy, sumsOf, offers}
+use Rattle.choice.specs.Private.{priced, pricedFixed, weight, bestPlain, sumBy, sumsOf, offers}
 
 -- a candidate with bits that are counted elsewhere
-abbrev pub made : Candidate → ℕ → Choice
-made c b = record { candidate = c; bits = b }
+abbrev pub withBits : Candidate → ℕ → Choice
+withBits c b = record { candidate = c; bits = b }
 
 -- such a sum is `quotients`
 sum-quotients : (k : ℕ) (rs : List ℤ) → sumBy k rs ≡ quotients k rs
@@ -45,7 +45,7 @@ module _ (w : ℕ) (xs : List ℤ) where
   offers-from order k zero h = refl
   offers-from order k (suc n) h =
       ap₂ (λ (c : Choice) (cs : List Choice). c ∷ cs)
-      (ap (made (Fixed order k)) (omega (arith, cost-fixed w xs order k h, sum-quotients k (fixedResiduals order xs))))
+      (ap (withBits (Fixed order k)) (omega (arith, cost-fixed w xs order k h, sum-quotients k (fixedResiduals order xs))))
       (offers-from order (suc k) n h)
 
   offers-priced : (order : ℕ) → order ≤ length xs
@@ -54,10 +54,10 @@ module _ (w : ℕ) (xs : List ℤ) where
   offers-priced order h = offers-from order 0 15 h
 
   -- a fixed predictor's choice, as the code has it
-  pub offered : {order head count : ℕ} {qs : List ℕ} {r : Choice} (best : Choice) → order ≤ length xs
+  pub fixed-choice : {order head count : ℕ} {qs : List ℕ} {r : Choice} (best : Choice) → order ≤ length xs
       → head ≡ 18 + order * w → count ≡ length (fixedResiduals order xs) → qs ≡ sumsOf (fixedResiduals order xs)
       → r ≡ fewestOf weight best (offers order head count 0 qs) → r ≡ fewestOf weight best (pricedFixed w xs order)
-  offered {order} {head} {count} {qs} best h eh ec eq e =
+  fixed-choice {order} {head} {count} {qs} best h eh ec eq e =
       e ∙ ap₂ (λ m n. fewestOf weight best (offers order m n 0 qs)) eh ec
       ∙ ap (λ (l : List ℕ). fewestOf weight best (offers order (18 + order * w) (length (fixedResiduals order xs)) 0 l)) eq
       ∙ ap (fewestOf weight best) (offers-priced order h)
@@ -65,19 +65,19 @@ module _ (w : ℕ) (xs : List ℤ) where
   -- ---- the choice without prediction, as the code has it
 
   module _ {b : ℕ} (e : b ≡ 8 + length xs * w) where
-    verbatim : made Verbatim b ≡ priced w xs Verbatim
+    verbatim : withBits Verbatim b ≡ priced w xs Verbatim
     unfolding priced
-    verbatim = ap (made Verbatim) (e ∙ sym (cost-verbatim w xs))
+    verbatim = ap (withBits Verbatim) (e ∙ sym (cost-verbatim w xs))
 
-    pub plain-verbatim : uniform xs ≡ false → made Verbatim b ≡ plainestOf w xs
-    unfolding plainestOf
+    pub plain-verbatim : uniform xs ≡ false → withBits Verbatim b ≡ bestPlain w xs
+    unfolding bestPlain
     plain-verbatim u = rw u verbatim
 
     pub plain-constant : {a : ℕ} {r : Choice} → uniform xs ≡ true → a ≡ 8 + min 1 (length xs) * w
-        → r ≡ fewestOf weight (made Constant a) (made Verbatim b ∷ []) → r ≡ plainestOf w xs
-    unfolding plainestOf priced
+        → r ≡ fewestOf weight (withBits Constant a) (withBits Verbatim b ∷ []) → r ≡ bestPlain w xs
+    unfolding bestPlain priced
     plain-constant {a} u d g =
         rw u
         (g
         ∙ ap₂ (λ (c v : Choice). fewestOf weight c (v ∷ []))
-        (ap (made Constant) (d ∙ ap (λ n. 8 + n * w) (sym (length-take 1 xs)) ∙ sym (cost-constant w xs))) verbatim)
+        (ap (withBits Constant) (d ∙ ap (λ n. 8 + n * w) (sym (length-take 1 xs)) ∙ sym (cost-constant w xs))) verbatim)

@@ -58,8 +58,8 @@ module _ {xs : List ℤ} {i : ℕ} (inv : Alike xs i) where
           ∙ ap (λ n. uniform (getD xs 0 (pos 0) ∷ drop n xs)) (sym (add-one i));
     }
 
-    pub out : (getD xs i (pos 0) ≡ getD xs 0 (pos 0) → ⊥) → false ≡ uniform xs
-    out d =
+    pub one-differs : (getD xs i (pos 0) ≡ getD xs 0 (pos 0) → ⊥) → false ≡ uniform xs
+    one-differs d =
         sym
         (next
         ∙ ap (λ b. b && uniform (getD xs 0 (pos 0) ∷ drop (suc i) xs)) (same-other (getD xs 0 (pos 0)) (getD xs i (pos 0)) (λ e. d (sym e))))

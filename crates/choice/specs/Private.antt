@@ -23,8 +23,8 @@ abbrev pub weight : Choice → ℕ
 weight c = c .bits
 
 -- the best of the candidates without prediction
-unfoldable pub plainestOf : ℕ → List ℤ → Choice
-plainestOf w xs =
+unfoldable pub bestPlain : ℕ → List ℤ → Choice
+bestPlain w xs =
     if uniform xs
     then fewestOf weight (priced w xs Constant) (priced w xs Verbatim ∷ [])
     else priced w xs Verbatim

@@ -26,20 +26,20 @@ module _ {sum c x : ℤ} (fs : SFits w64 sum) (fc : SFits w64 c) (fx : SFits w64
   abs-sum : natAbs (sum +ℤ c *ℤ x) ≤ natAbs sum + 6 * 2 ^ 32
   abs-sum = omega (arith, abs-add sum (c *ℤ x), abs-product)
 
-  pub product-fits : SFits w64 (bits64 c *ℤ bits64 x)
-  product-fits = rw (toZ-ofZ fc, toZ-ofZ fx) (sfits-of-abs (c *ℤ x) (omega (arith, abs-product)))
+  pub coefficient-product-fits : SFits w64 (bits64 c *ℤ bits64 x)
+  coefficient-product-fits = rw (toZ-ofZ fc, toZ-ofZ fx) (sfits-of-abs (c *ℤ x) (omega (arith, abs-product)))
 
   product : bits64 (bits64 c *ℤ bits64 x) ≡ c *ℤ x
-  product = toZ-ofZ product-fits ∙ ap₂ (λ (a b : ℤ). a *ℤ b) (toZ-ofZ fc) (toZ-ofZ fx)
+  product = toZ-ofZ coefficient-product-fits ∙ ap₂ (λ (a b : ℤ). a *ℤ b) (toZ-ofZ fc) (toZ-ofZ fx)
 
-  pub sum-fits : SFits w64 (bits64 sum +ℤ bits64 (bits64 c *ℤ bits64 x))
-  sum-fits = rw (toZ-ofZ fs, product) (sfits-of-abs (sum +ℤ c *ℤ x) (omega (arith, abs-sum)))
+  pub product-sum-fits : SFits w64 (bits64 sum +ℤ bits64 (bits64 c *ℤ bits64 x))
+  product-sum-fits = rw (toZ-ofZ fs, product) (sfits-of-abs (sum +ℤ c *ℤ x) (omega (arith, abs-sum)))
 
-  pub sum-is : {y : ℤ} → x ≡ y
+  pub product-sum-is : {y : ℤ} → x ≡ y
       → (bits64 (bits64 sum +ℤ bits64 (bits64 c *ℤ bits64 x)) ≡ sum +ℤ c *ℤ y)
       × (natAbs (bits64 (bits64 sum +ℤ bits64 (bits64 c *ℤ bits64 x))) ≤ natAbs sum + 6 * 2 ^ 32)
-  sum-is d =
-      let e = toZ-ofZ sum-fits ∙ ap₂ (λ (a b : ℤ). a +ℤ b) (toZ-ofZ fs) product in
+  product-sum-is d =
+      let e = toZ-ofZ product-sum-fits ∙ ap₂ (λ (a b : ℤ). a +ℤ b) (toZ-ofZ fs) product in
       (e ∙ ap (λ (z : ℤ). sum +ℤ c *ℤ z) d, rw e abs-sum)
 
 -- ---- the prediction of sample i: k products are added up in acc, and those of the coefficients `rest` are to come
@@ -83,8 +83,8 @@ unfolding predictedAt fixedCoefficients
 predicted-above xs i a b c d = rw (ne-eqb _ _ a, ne-eqb _ _ b, ne-eqb _ _ c, ne-eqb _ _ d)
 
 -- an answer for one order serves another with the same coefficients
-pub carried : {r a b : ℤ} → SFits w64 r → (r ≡ a) × (natAbs r ≤ 24 * 2 ^ 32) → a ≡ b → (bits64 r ≡ b) × (natAbs (bits64 r) ≤ 24 * 2 ^ 32)
-carried f e d = rw (toZ-ofZ f) (e .0 ∙ d, e .1)
+pub same-coefficients : {r a b : ℤ} → SFits w64 r → (r ≡ a) × (natAbs r ≤ 24 * 2 ^ 32) → a ≡ b → (bits64 r ≡ b) × (natAbs (bits64 r) ≤ 24 * 2 ^ 32)
+same-coefficients f e d = rw (toZ-ofZ f) (e .0 ∙ d, e .1)
 
 -- ---- a sample less its prediction
 

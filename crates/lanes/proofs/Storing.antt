@@ -1,6 +1,5 @@
 -- What each lane stores: how many samples, which one at an index, and how large. Assumes nothing.
 use Prim.Native.Nat.{ℕ, zero, suc, _+_, _-_, _*_, _^_, _≤_, _<_, min}
-use native.Mathlib.Nat.{le-of-lt, mul-le-mul}
 use native.Mathlib.Omega.{arith}
 use mathlib.Core.Path.{_≡_, refl, ap, ap₂, sym, _∙_}
 use mathlib.Core.List.{List, [], _∷_}
@@ -19,10 +18,6 @@ use Rattle.rfc9639.proofs.Widths.{of-sfits}
 use Rattle.rfc9639.proofs.Machine.{widened}
 use Rattle.number.proofs.Sizes.{abs-of-fits, abs-shiftDown}
 use Rattle.number.proofs.ExactSums.{sum-fits-33, difference-fits-33}
-
--- where channel c starts
-pub start-lt : (c n : ℕ) → c < 2 ^ 32 → n < 2 ^ 16 → c * n < 2 ^ 64
-start-lt c n h k = omega (arith, mul-le-mul {n₂ = 2 ^ 32} {m₂ = 2 ^ 16} (le-of-lt h) (le-of-lt k))
 
 -- ---- pairs
 
@@ -77,8 +72,8 @@ mid-abs a b f g = omega (arith, abs-shiftDown 1 (a +ℤ b), abs-of-fits (sum-fit
 abbrev bits32 : ℤ → ℤ
 bits32 z = toZ w32 (ofZ w32 z)
 
-abbrev Sample : List ℤ → ℕ → ℤ → Type 0
-Sample l i r = (toZ w64 (ofZ w64 r) ≡ getD l i (pos 0)) × (natAbs (toZ w64 (ofZ w64 r)) ≤ 2 ^ 32)
+abbrev SampleIs : List ℤ → ℕ → ℤ → Type 0
+SampleIs l i r = (toZ w64 (ofZ w64 r) ≡ getD l i (pos 0)) × (natAbs (toZ w64 (ofZ w64 r)) ≤ 2 ^ 32)
 
 module _ {n : ℕ} {xs : List ℤ} {c : ℕ} {l : List ℤ} (e : Single n xs c l) where
   pub length-channel : length l ≡ min n (length xs - c * n)
@@ -88,7 +83,7 @@ module _ {n : ℕ} {xs : List ℤ} {c : ℕ} {l : List ℤ} (e : Single n xs c l
     pub channel-inside : c * n + i < length xs
     channel-inside = omega (arith, length-channel)
 
-    pub channel-sample : SFits w32 (getD xs (c * n + i) (pos 0)) → Sample l i (bits32 (getD xs (c * n + i) (pos 0)))
+    pub channel-sample : SFits w32 (getD xs (c * n + i) (pos 0)) → SampleIs l i (bits32 (getD xs (c * n + i) (pos 0)))
     channel-sample f =
         rw (widened f)
         (sym (ap (λ (t : List ℤ). getD t i (pos 0)) (e .is) ∙ channel-getD n xs c i (omega (arith, length-channel))), omega (arith, abs-of-fits (of-sfits f)))
@@ -115,6 +110,6 @@ module _ {f : ℤ → ℤ → ℤ} {n : ℕ} {xs l : List ℤ} (e : Paired f n x
 
     pub both-sample : ((a b : ℤ) → SFits w32 a → SFits w32 b → natAbs (f a b) ≤ 2 ^ 32)
         → {a b : ℤ} → SFits w32 a → SFits w32 b → (a ≡ getD xs i (pos 0)) × (b ≡ getD xs (n + i) (pos 0))
-        → {r : ℤ} → SFits w64 r → r ≡ f (bits32 a) (bits32 b) → Sample l i r
+        → {r : ℤ} → SFits w64 r → r ≡ f (bits32 a) (bits32 b) → SampleIs l i r
     both-sample small fa fb e g d =
         rw (toZ-ofZ g, d, toZ-ofZ fa, toZ-ofZ fb) (ap₂ f (e .0) (e .1) ∙ sym both-at, small _ _ fa fb)

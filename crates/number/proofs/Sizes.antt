@@ -24,6 +24,11 @@ sfits-of-abs z h = to-sfits (fits-of-abs 64 z h)
 pub add-fits : (a b : ℤ) → natAbs a < 2 ^ 62 → natAbs b ≤ 2 ^ 62 → SFits w64 (a +ℤ b)
 add-fits a b h k = sfits-of-abs (a +ℤ b) (omega (arith, abs-add a b))
 
+-- ---- a product of two natural numbers
+
+pub product-at-most : (m n : ℕ) {a b : ℕ} → a < m → b < n → a * b ≤ m * n
+product-at-most m n h l = mul-le-mul {n₂ = m} {m₂ = n} (le-of-lt h) (le-of-lt l)
+
 -- ---- one product, and a sum with it. A sample has at most 33 bits: a side channel is one bit wider than 32.
 
 module _ (c x : ℤ) (h : natAbs c < 2 ^ 15) (l : Fits 33 x) where

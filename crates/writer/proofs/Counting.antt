@@ -43,9 +43,9 @@ module _ (b n : ℕ) (xs : List ℤ) (a : ChannelAssignment) where
       let k : x .bits ≡ length (laneBits b n xs lane) = ap (λ (y : Choice). y .bits) e ∙ choice-bits lane in
       omega (arith, k, lane-at-most b n xs lane)
 
-  next : (c : ℕ) → length (soFar (c + 1)) ≡ length (soFar c) + length (laneBits b n xs (laneOf a c))
+  soFar-next : (c : ℕ) → length (soFar (c + 1)) ≡ length (soFar c) + length (laneBits b n xs (laneOf a c))
   unfolding row
-  next c =
+  soFar-next c =
       let l = laneBits b n xs (laneOf a c) in
       ap (λ (k : List Lane). length (row (laneBits b n xs) k)) (map-counting-last (laneOf a) c)
       ∙ ap length (row-append (laneBits b n xs) (map (laneOf a) (counting 0 c)) (laneOf a c ∷ [])) ∙ length-append (soFar c) (l ++ [])
@@ -56,7 +56,7 @@ module _ (b n : ℕ) (xs : List ℤ) (a : ChannelAssignment) where
     counted-more h g {x} e =
         let m = choice-small h g (laneOf a c) e in
         let f : x .bits ≡ length (laneBits b n xs (laneOf a c)) = ap (λ (y : Choice). y .bits) e ∙ choice-bits (laneOf a c) in
-        record { same = omega (arith, k .same, f, next c); small = omega (arith, k .small, add-mul c 1 (2 ^ 22)) }
+        record { same = omega (arith, k .same, f, soFar-next c); small = omega (arith, k .small, add-mul c 1 (2 ^ 22)) }
 
 -- the bits of all subframes
 pub counted-all : (set : FrameSetting) (xs : List ℤ) {bits count c : ℕ} → Counted (set .bits) (set .size) xs (assignment (set .channels)) bits c → c ≡ count

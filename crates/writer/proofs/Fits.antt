@@ -33,20 +33,20 @@ fits-folded w h (negsuc n) = same-test n (2 ^ (w - 1)) (n * 2 + 1) (2 ^ w) (λ l
 -- ---- all samples, one by one
 
 module _ (w : ℕ) (xs : List ℤ) (i : ℕ) (same : allFit w (drop i xs) ≡ allFit w xs) where
-  first : i < length xs → (fits w (getD xs i (pos 0)) && allFit w (drop (suc i) xs)) ≡ allFit w xs
+  next-and-rest : i < length xs → (fits w (getD xs i (pos 0)) && allFit w (drop (suc i) xs)) ≡ allFit w xs
   unfolding allFit
-  first h = sym (ap (allFit w) (drop-cons xs i (pos 0) h)) ∙ same
+  next-and-rest h = sym (ap (allFit w) (drop-cons xs i (pos 0) h)) ∙ same
 
   -- the code passes a sample by its bits
-  tested : SFits w32 (getD xs i (pos 0)) → {t : Bool} → fits w (toZ w32 (ofZ w32 (getD xs i (pos 0)))) ≡ t → t ≡ fits w (getD xs i (pos 0))
-  tested f e = sym e ∙ ap (fits w) (toZ-ofZ f)
+  fits-of-bits : SFits w32 (getD xs i (pos 0)) → {t : Bool} → fits w (toZ w32 (ofZ w32 (getD xs i (pos 0)))) ≡ t → t ≡ fits w (getD xs i (pos 0))
+  fits-of-bits f e = sym e ∙ ap (fits w) (toZ-ofZ f)
 
   pub fit-fails : i < length xs → SFits w32 (getD xs i (pos 0)) → fits w (toZ w32 (ofZ w32 (getD xs i (pos 0)))) ≡ false → false ≡ allFit w xs
-  fit-fails h f e = ap (λ t. t && allFit w (drop (suc i) xs)) (tested f e) ∙ first h
+  fit-fails h f e = ap (λ t. t && allFit w (drop (suc i) xs)) (fits-of-bits f e) ∙ next-and-rest h
 
   pub fit-next : i < length xs → SFits w32 (getD xs i (pos 0)) → fits w (toZ w32 (ofZ w32 (getD xs i (pos 0)))) ≡ true → allFit w (drop (i + 1) xs) ≡ allFit w xs
   fit-next h f e =
-      ap (λ n. allFit w (drop n xs)) (let g : i + 1 ≡ suc i = omega arith in g) ∙ ap (λ t. t && allFit w (drop (suc i) xs)) (tested f e) ∙ first h
+      ap (λ n. allFit w (drop n xs)) (let g : i + 1 ≡ suc i = omega arith in g) ∙ ap (λ t. t && allFit w (drop (suc i) xs)) (fits-of-bits f e) ∙ next-and-rest h
 
   pub fit-end : length xs ≤ i → true ≡ allFit w xs
   unfolding allFit

@@ -19,23 +19,23 @@ use Rattle.output.proofs.Inking.{Good, ink-byte, inked-is, inked-length, inked-
 use Rattle.writer.specs.Private.{filled, summed}
 
 -- where the pen stands once k zeros fill the byte
-at : ℕ → Pen → List ℕ → ℕ
-at k p s = inked (bitsOf k 0) p s .pen .byte
+filledByte : ℕ → Pen → List ℕ → ℕ
+filledByte k p s = inked (bitsOf k 0) p s .pen .byte
 
-filled-at : (p : Pen) (s : List ℕ) → Good p → p .byte < length s → (h : ℕ) → p .held ≡ h → at ((8 - h) % 8) p s ≤ length s
-unfolding at bitsOf ink
-filled-at p s g l zero e = let b : at ((8 - 0) % 8) p s ≡ p .byte = ap (λ (st : State). st .pen .byte) (inked-is [] p s g) in omega (arith, b)
+filled-at : (p : Pen) (s : List ℕ) → Good p → p .byte < length s → (h : ℕ) → p .held ≡ h → filledByte ((8 - h) % 8) p s ≤ length s
+unfolding filledByte bitsOf ink
+filled-at p s g l zero e = let b : filledByte ((8 - 0) % 8) p s ≡ p .byte = ap (λ (st : State). st .pen .byte) (inked-is [] p s g) in omega (arith, b)
 filled-at p s g l (suc h) e =
     let n : ℕ = (8 - suc h) % 8 in
     let k = length-bitsOf n 0 in
     let whole = inked-is (bitsOf n 0) p s g ∙ ink-byte (bitsOf n 0) p s l (omega (arith, k, e, g .few)) (omega (arith, k, e, g .few)) in
-    let b : at n p s ≡ p .byte + 1 = ap (λ (st : State). st .pen .byte) whole in
+    let b : filledByte n p s ≡ p .byte + 1 = ap (λ (st : State). st .pen .byte) whole in
     omega (arith, b)
 
 -- the filled pen stays within the bytes
 pub filled-within : (p : Pen) (s : List ℕ) {q : Pen} {t : List ℕ} → Good p → p .byte < length s → _≡_ {A = State} (record { pen = q; bytes = t }) (filled p s)
     → q .byte ≤ length t
-unfolding filled at
+unfolding filled filledByte
 filled-within p s {q} {t} g l e =
     let b : q .byte ≡ filled p s .pen .byte = ap (λ (st : State). st .pen .byte) e in
     let n : length t ≡ length (filled p s .bytes) = ap (λ (st : State). length (st .bytes)) e in
@@ -48,9 +48,9 @@ module _ (bs s : List ℕ) (b : Binary bs) (room : (length bs + 7) / 8 + 2 ≤ l
   m = length bs / 8
 
   -- the pen holds the bits past the last whole byte
-  begun : inked bs fresh s ≡ record { pen = record { byte = m; held = length (drop (8 * m) bs); bits = spelt 0 (drop (8 * m) bs) }; bytes = bytesOf m (take (8 * m) bs) ++ drop m s }
+  inked-fresh : inked bs fresh s ≡ record { pen = record { byte = m; held = length (drop (8 * m) bs); bits = spelt 0 (drop (8 * m) bs) }; bytes = bytesOf m (take (8 * m) bs) ++ drop m s }
   unfolding m
-  begun =
+  inked-fresh =
       ap (λ x. inked x fresh s) (sym (take-append-drop (8 * m) bs))
       ∙ inked-part (take (8 * m) bs) (drop (8 * m) bs) s m (length-take-le (8 * m) bs (omega arith)) (omega (arith, length-drop (8 * m) bs)) (omega arith)
 
@@ -58,30 +58,30 @@ module _ (bs s : List ℕ) (b : Binary bs) (room : (length bs + 7) / 8 + 2 ≤ l
   pub pen-within : {p : Pen} {t : List ℕ} → Writes bs fresh s p t → p .byte < length t
   unfolding m
   pen-within {p} {t} e =
-      let k : p .byte ≡ m = ap (λ (st : State). st .pen .byte) (e ∙ begun) in
+      let k : p .byte ≡ m = ap (λ (st : State). st .pen .byte) (e ∙ inked-fresh) in
       let l : length t ≡ length s = ap (λ (st : State). length (st .bytes)) e ∙ inked-length bs fresh s in
       omega (arith, k, l)
 
   -- the bytes before the CRC-16 are the padded bits
-  before : bitsOfBytes (take (inked (padded bs) fresh s .pen .byte) (inked (padded bs) fresh s .bytes)) ≡ padded bs
-  before = inked-before (padded bs) s ((length bs + 7) / 8) (bits-padded b .bits) (length-padded bs) (omega arith) refl
+  bytes-before-sum : bitsOfBytes (take (inked (padded bs) fresh s .pen .byte) (inked (padded bs) fresh s .bytes)) ≡ padded bs
+  bytes-before-sum = inked-before (padded bs) s ((length bs + 7) / 8) (bits-padded b .bits) (length-padded bs) (omega arith) refl
 
   module _ {p : Pen} {t : List ℕ} (e : Writes bs fresh s p t) where
-    held : p .held ≡ length bs % 8
+    held-rest : p .held ≡ length bs % 8
     unfolding m
-    held = let h : p .held ≡ length (drop (8 * m) bs) = ap (λ (st : State). st .pen .held) (e ∙ begun) in omega (arith, h, length-drop (8 * m) bs)
+    held-rest = let h : p .held ≡ length (drop (8 * m) bs) = ap (λ (st : State). st .pen .held) (e ∙ inked-fresh) in omega (arith, h, length-drop (8 * m) bs)
 
-    fill : filled p t ≡ inked (padded bs) fresh s
+    filled-is-padded : filled p t ≡ inked (padded bs) fresh s
     unfolding filled padded padding
-    fill =
+    filled-is-padded =
         let k : ℕ = (8 - length bs % 8) % 8 in
-        ap (λ (h : ℕ). inked (bitsOf ((8 - h) % 8) 0) p t) held ∙ ap (λ (st : State). inked (bitsOf k 0) (st .pen) (st .bytes)) e
+        ap (λ (h : ℕ). inked (bitsOf ((8 - h) % 8) 0) p t) held-rest ∙ ap (λ (st : State). inked (bitsOf k 0) (st .pen) (st .bytes)) e
         ∙ sym (inked-append bs (bitsOf k 0) fresh s (b .bits)) ∙ ap (λ (z : List ℕ). inked (bs ++ z) fresh s) (bitsOf-zero k)
 
     -- the bits, padded and with their CRC-16, are the definition's
     pub footed-is : summed (filled p t) ≡ inked (footed (padded bs)) fresh s
     unfolding summed footed
     footed-is =
-        ap summed fill
-        ∙ ap (λ (z : List ℕ). inked (bitsOf 16 (crc16 z)) (inked (padded bs) fresh s .pen) (inked (padded bs) fresh s .bytes)) before
+        ap summed filled-is-padded
+        ∙ ap (λ (z : List ℕ). inked (bitsOf 16 (crc16 z)) (inked (padded bs) fresh s .pen) (inked (padded bs) fresh s .bytes)) bytes-before-sum
         ∙ sym (inked-append (padded bs) (bitsOf 16 (crc16 (padded bs))) fresh s (bits-padded b .bits))

@@ -26,35 +26,35 @@ pub length-is : (set : FrameSetting) (xs : List ℤ) {bits : ℕ} → bits ≡ l
 length-is set xs {bits} e = omega (arith, e, length-frame set xs, length-append (headerBits set) (subframesBits set xs), header-whole set)
 
 module _ (set : FrameSetting) (xs : List ℤ) (s : List ℕ) (room : length (frameBytes set xs) ≤ length s) where
-  coded : List ℕ
-  coded = headerBits set ++ subframesBits set xs
+  unpadded : List ℕ
+  unpadded = headerBits set ++ subframesBits set xs
 
-  coded-bits : Binary coded
-  unfolding coded
-  coded-bits = both (bits-header set) (bits-subframes set xs)
+  unpadded-binary : Binary unpadded
+  unfolding unpadded
+  unpadded-binary = both (bits-header set) (bits-subframes set xs)
 
-  coded-room : (length coded + 7) / 8 + 2 ≤ length s
-  unfolding coded
-  coded-room = omega (arith, length-frame set xs)
+  unpadded-room : (length unpadded + 7) / 8 + 2 ≤ length s
+  unfolding unpadded
+  unpadded-room = omega (arith, length-frame set xs)
 
   -- the header and the subframes
   module _ {h p : Pen} {t u : List ℕ} (e : _≡_ {A = State} (record { pen = h; bytes = t }) (headed set s)) (f : Writes (subframesBits set xs) h t p u) where
-    so-far : Writes coded fresh s p u
-    unfolding coded
-    so-far =
+    unpadded-written : Writes unpadded fresh s p u
+    unfolding unpadded
+    unpadded-written =
         inked-then (first (bits-header set) (e ∙ headed-is set s (omega (arith, length-frame set xs, length-append (headerBits set) (subframesBits set xs))))) (subframesBits set xs) f
 
     pub begun-good : Good p
-    begun-good = inked-good coded fresh s (coded-bits .bits) fresh-good so-far
+    begun-good = inked-good unpadded fresh s (unpadded-binary .bits) fresh-good unpadded-written
 
     pub begun-within : p .byte < length u
-    begun-within = pen-within coded s coded-bits coded-room so-far
+    begun-within = pen-within unpadded s unpadded-binary unpadded-room unpadded-written
 
     -- and the end
     pub frame-is : {q : Pen} {v : List ℕ} → _≡_ {A = State} (record { pen = q; bytes = v }) (summed (filled p u)) → v ≡ frameBytes set xs ++ drop (length (frameBytes set xs)) s
-    unfolding coded frameBits frameBytes packed
+    unfolding unpadded frameBits frameBytes packed
     frame-is {q} {v} g =
         let m = length (frameBytes set xs) in
         let whole = inked-whole (frameBits set xs) s m (length-frameBits set xs) room in
-        ap (λ (st : State). st .bytes) (g ∙ footed-is coded s coded-bits coded-room so-far ∙ whole)
+        ap (λ (st : State). st .bytes) (g ∙ footed-is unpadded s unpadded-binary unpadded-room unpadded-written ∙ whole)
         ∙ ap (λ k. bytesOf k (frameBits set xs) ++ drop m s) (let k : m ≡ length (frameBits set xs) / 8 = omega (arith, length-frameBits set xs) in k)

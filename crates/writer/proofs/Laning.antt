@@ -42,9 +42,9 @@ lane-written c b n xs p s {x} {w} {lane} {lane′} h e f g =
     ∙ ap (λ l. inked (codedLane c b n xs l) p s) g
 
 module _ (a : ChannelAssignment) (b n : ℕ) (xs : List ℤ) where
-  coded-lane : (lane : Lane) → codedLane (laneChoice b n xs lane .candidate) b n xs lane ≡ laneBits b n xs lane
+  codedLane-choice : (lane : Lane) → codedLane (laneChoice b n xs lane .candidate) b n xs lane ≡ laneBits b n xs lane
   unfolding laneChoice choiceOf laneBits subframeBits
-  coded-lane lane = refl
+  codedLane-choice lane = refl
 
   -- the next subframe, as planned
   pub lane-next : {p₀ : Pen} {s₀ : List ℕ} {c : ℕ} {p : Pen} {s : List ℕ} → Unwritten (laneBits b n xs) (lanes a) p₀ s₀ c p s → c < channelCount a
@@ -53,4 +53,4 @@ module _ (a : ChannelAssignment) (b n : ℕ) (xs : List ℤ) where
       → Unwritten (laneBits b n xs) (lanes a) p₀ s₀ (c + 1) q t
   lane-next {p₀} {s₀} {c} {p} {s} u h {choice} e f =
       step u Mid {y = laneOf a c} (omega (arith, length-lanes a)) (sym (lane-at a c Mid h)) (bits-lane b n xs (laneOf a c))
-      (f ∙ ap (λ (k : Choice). inked (codedLane (k .candidate) b n xs (laneOf a c)) p s) e ∙ ap (λ l. inked l p s) (coded-lane (laneOf a c)))
+      (f ∙ ap (λ (k : Choice). inked (codedLane (k .candidate) b n xs (laneOf a c)) p s) e ∙ ap (λ l. inked l p s) (codedLane-choice (laneOf a c)))

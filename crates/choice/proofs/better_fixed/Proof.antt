@@ -9,9 +9,9 @@ use lib.ListN.{length}
 use Rattle.rfc9639.specs.Coding.{fixedResiduals}
 use Rattle.rfc9639.proofs.Lengths.{length-fixedResiduals, stored-at-most}
 use Rattle.lanes.specs.Sources.{storedBy}
-use Rattle.choice.proofs.Sizes.{product-small}
+use Rattle.number.proofs.Sizes.{product-at-most}
 use Rattle.choice.proofs.Tallying.{length-sums}
-use Rattle.choice.proofs.Pricing.{offered}
+use Rattle.choice.proofs.Pricing.{fixed-choice}
 use Rattle.choice.proofs.better_fixed.Statement.{statement}
 use Rattle.choice.proofs.better_fixed.Tie as tie
 
@@ -44,7 +44,7 @@ module _ (c : tie.After-plain-bits) where
 
   head-small : c .plain-bits .result + 10 < 2 ^ 60
   head-small =
-      omega (arith, product-small {a = s (c .before) .args .order} {b = s (c .before) .args .width} (omega arith) (omega (arith, s (c .before) .fits .width .fits)), head-is)
+      omega (arith, product-at-most 5 (2 ^ 32) (s (c .before) .pre .0) (s (c .before) .fits .width .fits), head-is)
 
 add-head : tie.Need-add-head
 add-head c = record { fits = omega (arith, head-small c) }
@@ -60,7 +60,7 @@ best-parameter-requires c κs =
 returns : tie.Need-returns
 returns c =
     let q = c .before .before in let p = q .before in
-    offered _ _ _ (omega arith) (head-is p) (count-is (p .before)) (q .quotient-sums .ensures .0) (c .best-parameter .ensures)
+    fixed-choice _ _ _ (omega arith) (head-is p) (count-is (p .before)) (q .quotient-sums .ensures .0) (c .best-parameter .ensures)
 
 pub better-fixed-spec : {M : Type 1} → statement M
 better-fixed-spec =

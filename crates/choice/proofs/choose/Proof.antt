@@ -19,11 +19,11 @@ stored-len-requires c κs = search needs
 lesser-requires : tie.Need-lesser-requires Inv-loop μ-loop
 lesser-requires c κs = search needs
 
-plainest-requires : tie.Need-plainest-requires Inv-loop μ-loop
-plainest-requires c κs = search needs
+best-plain-requires : tie.Need-best-plain-requires Inv-loop μ-loop
+best-plain-requires c κs = search needs
 
 loop-holds : tie.Need-loop-holds Inv-loop μ-loop
-loop-holds c = begin _ _ (c .plainest .ensures)
+loop-holds c = begin _ _ (c .best-plain .ensures)
 
 cast-better-fixed : tie.Need-cast-better-fixed Inv-loop μ-loop
 cast-better-fixed c = search needs
@@ -51,7 +51,7 @@ choose-spec =
     μ-loop
     stored-len-requires
     lesser-requires
-    plainest-requires
+    best-plain-requires
     loop-holds
     cast-better-fixed
     better-fixed-requires

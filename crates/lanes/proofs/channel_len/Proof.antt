@@ -1,12 +1,13 @@
 -- `channel_len` meets its contract: the start of a channel fits 48 bits. Assumes nothing.
+use Prim.Native.Nat.{_^_}
 use native.Mathlib.Omega.{arith}
 use borrow.Author.Needs.{needs}
-use Rattle.lanes.proofs.Storing.{start-lt}
+use Rattle.number.proofs.Sizes.{product-at-most}
 use Rattle.lanes.proofs.channel_len.Statement.{statement}
 use Rattle.lanes.proofs.channel_len.Tie as tie
 
 mul-start : tie.Need-mul-start
-mul-start c = record { fits = omega (arith, start-lt (c .args .c) (c .args .size) (c .fits .c .fits) (c .fits .size .fits)) }
+mul-start c = record { fits = omega (arith, product-at-most (2 ^ 32) (2 ^ 16) (c .fits .c .fits) (c .fits .size .fits)) }
 
 saturating-sub-requires : tie.Need-saturating-sub-requires
 saturating-sub-requires c κs = search needs

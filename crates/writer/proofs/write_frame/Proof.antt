@@ -34,15 +34,15 @@ returns-2 c = no-fit _ _ _ (is-set (c .before .before)) (sym (c .before .all-fit
 all-fits : (c : tie.Else2) → let s = c .before .before .before .before .before in allFit (s .args .bits) (s .args .samples .now) ≡ true
 all-fits c = sym (c .before .all-fit .ensures) ∙ not-false _ (c .if2 .left)
 
-plan-of-requires : tie.Need-plan-of-requires
-plan-of-requires c κs = in-range _ _ (is-set (c .before .before))
+plan-frame-requires : tie.Need-plan-frame-requires
+plan-frame-requires c κs = in-range _ _ (is-set (c .before .before))
 
 frame-length-requires : tie.Need-frame-length-requires
-frame-length-requires c κs = omega (arith, c .plan-of .ensures .2)
+frame-length-requires c κs = omega (arith, c .plan-frame .ensures .2)
 
 long : (c : tie.After-frame-length)
     → let s = c .before .before .before .before .before .before .before in c .frame-length .result ≡ length (frameBytes (set s) (s .args .samples .now))
-long c = c .frame-length .ensures ∙ length-is _ _ (c .before .plan-of .ensures .1)
+long c = c .frame-length .ensures ∙ length-is _ _ (c .before .plan-frame .ensures .1)
 
 returns-3 : tie.Need-returns-3
 returns-3 c = let e = c .before .before .before in no-room _ _ _ (is-set (e .before .before)) (all-fits e) (long (c .before)) (c .if3 .taken)
@@ -50,7 +50,7 @@ returns-3 c = let e = c .before .before .before in no-room _ _ _ (is-set (e .bef
 write-planned-requires : tie.Need-write-planned-requires
 write-planned-requires c κs =
     let i = c .before .before in let p = i .before .before in
-    (in-range _ _ (is-set (p .before .before .before)), p .plan-of .ensures .0, rw (sym (long (i .before))) (i .if3 .left))
+    (in-range _ _ (is-set (p .before .before .before)), p .plan-frame .ensures .0, rw (sym (long (i .before))) (i .if3 .left))
 
 same-length : tie.Need-same-length
 same-length c = search needs
@@ -68,7 +68,7 @@ write-frame-spec =
     returns
     all-fit-requires
     returns-2
-    plan-of-requires
+    plan-frame-requires
     frame-length-requires
     returns-3
     write-planned-requires

@@ -12,15 +12,15 @@ write-subframes-requires : tie.Need-write-subframes-requires
 write-subframes-requires c κs = search needs
 
 -- the pen after the subframes
-begun : (c : tie.After-write-subframes) → Good (c .write-subframes .result)
-begun c =
+after-subframes : (c : tie.After-write-subframes) → Good (c .write-subframes .result)
+after-subframes c =
     let h = c .before .before .before .before in
     begun-good _ _ _ (h .before .before .before .pre .2) (h .write-header .ensures) (c .write-subframes .ensures)
 
 write-footer-requires : tie.Need-write-footer-requires
 write-footer-requires c κs =
     let w = c .before .before .before in let h = w .before .before .before .before in
-    (begun w .few, begun w .low, begun-within _ _ _ (h .before .before .before .pre .2) (h .write-header .ensures) (w .write-subframes .ensures))
+    (after-subframes w .few, after-subframes w .low, begun-within _ _ _ (h .before .before .before .pre .2) (h .write-header .ensures) (w .write-subframes .ensures))
 
 same-length : tie.Need-same-length
 same-length c = search needs

@@ -3,7 +3,7 @@ use Prim.Native.Nat.{_+_, _-_, _*_, _^_, _≤_, _<_}
 use native.Mathlib.Omega.{arith}
 use borrow.Author.Needs.{needs}
 use lib.ListN.{getD}
-use Rattle.choice.proofs.Sizes.{product-small}
+use Rattle.number.proofs.Sizes.{product-at-most}
 use Rattle.choice.proofs.Offering.{Offered, begin, step, end}
 use Rattle.choice.proofs.offer.best_parameter.Statement.{statement}
 use Rattle.choice.proofs.offer.best_parameter.Tie as tie
@@ -34,7 +34,7 @@ module _ (c : tie.In-loop Inv-loop μ-loop) where
   sum-small = s .pre .1 (c .before .loop .k)
 
   ends-few : s .args .count * (c .before .loop .k + 1) ≤ 2 ^ 48
-  ends-few = product-small (s .pre .3) (omega arith)
+  ends-few = product-at-most (2 ^ 16) (2 ^ 32) (s .pre .3) (omega arith)
 
 add-bits : tie.Need-add-bits Inv-loop μ-loop
 add-bits c = record { fits = omega (arith, sum-small (c .before)) }

@@ -6,7 +6,7 @@ use borrow.Author.Needs.{needs}
 use mir.Syntax.{w64}
 use mir.Val.{ofZ}
 use Rattle.lanes.specs.Sources.{storedBy}
-use Rattle.choice.proofs.Uniform.{bits-tell, Alike, begin, step, out, end}
+use Rattle.choice.proofs.Uniform.{bits-tell, Alike, begin, step, one-differs, end}
 use Rattle.choice.proofs.plain.is_uniform.Statement.{statement}
 use Rattle.choice.proofs.plain.is_uniform.Tie as tie
 
@@ -35,7 +35,7 @@ module _ (c : tie.After-stored-sample2 Inv-loop μ-loop) where
 returns : tie.Need-returns Inv-loop μ-loop
 returns c =
     let d = c .before in
-    out (d .before .before .loop .inv) (omega arith)
+    one-differs (d .before .before .loop .inv) (omega arith)
     (λ e. c .if1 .taken (ap (ofZ w64) (d .stored-sample2 .ensures ∙ e ∙ sym (f d .stored-sample .ensures))))
 
 add-i : tie.Need-add-i Inv-loop μ-loop

@@ -2,12 +2,12 @@
 use Prim.Native.Nat.{_*_, _^_, _≤_}
 use native.Mathlib.Omega.{arith}
 use borrow.Author.Needs.{needs}
-use Rattle.choice.proofs.Sizes.{product-small}
+use Rattle.number.proofs.Sizes.{product-at-most}
 use Rattle.choice.proofs.plain.plain_bits.Statement.{statement}
 use Rattle.choice.proofs.plain.plain_bits.Tie as tie
 
 few : (c : tie.Start) → c .args .count * c .args .width ≤ 2 ^ 48
-few c = product-small (c .pre) (c .fits .width .fits)
+few c = product-at-most (2 ^ 16) (2 ^ 32) (c .pre) (c .fits .width .fits)
 
 mul-result : tie.Need-mul-result
 mul-result c = record { fits = omega (arith, few c) }

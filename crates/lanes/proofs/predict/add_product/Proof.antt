@@ -2,7 +2,7 @@
 use borrow.Author.Needs.{needs}
 use mir.Syntax.{w64}
 use mir.Val.{SFits}
-use Rattle.lanes.proofs.Predicting.{product-fits, sum-fits, sum-is}
+use Rattle.lanes.proofs.Predicting.{coefficient-product-fits, product-sum-fits, product-sum-is}
 use Rattle.lanes.proofs.predict.add_product.Statement.{statement}
 use Rattle.lanes.proofs.predict.add_product.Tie as tie
 
@@ -15,17 +15,17 @@ read c = record { sfits = c .sample-at .ok }
 mul-result : tie.Need-mul-result
 mul-result c =
     let s = c .before in
-    product-fits (s .fits .sum) (s .fits .coefficient) (read c) (s .pre .1) (s .pre .2) (c .sample-at .ensures .1)
+    coefficient-product-fits (s .fits .sum) (s .fits .coefficient) (read c) (s .pre .1) (s .pre .2) (c .sample-at .ensures .1)
 
 add-result : tie.Need-add-result
 add-result c =
     let s = c .before in
-    sum-fits (s .fits .sum) (s .fits .coefficient) (read c) (s .pre .1) (s .pre .2) (c .sample-at .ensures .1)
+    product-sum-fits (s .fits .sum) (s .fits .coefficient) (read c) (s .pre .1) (s .pre .2) (c .sample-at .ensures .1)
 
 returns : tie.Need-returns
 returns c =
     let s = c .before in
-    sum-is (s .fits .sum) (s .fits .coefficient) (read c) (s .pre .1) (s .pre .2) (c .sample-at .ensures .1) (c .sample-at .ensures .0)
+    product-sum-is (s .fits .sum) (s .fits .coefficient) (read c) (s .pre .1) (s .pre .2) (c .sample-at .ensures .1) (c .sample-at .ensures .0)
 
 pub add-product-spec : {M : Type 1} → statement M
 add-product-spec = tie.close (tie.spec sample-at-requires mul-result add-result returns)

@@ -7,7 +7,7 @@ use borrow.Author.Needs.{needs}
 use lib.IntN.{ℤ}
 use Rattle.lanes.specs.Sources.{storedBy}
 use Rattle.lanes.specs.Private.{predictedAt}
-use Rattle.lanes.proofs.Predicting.{predicted-none, predicted-above, carried}
+use Rattle.lanes.proofs.Predicting.{predicted-none, predicted-above, same-coefficients}
 use Rattle.lanes.proofs.predict.predicted_at.Statement.{statement}
 use Rattle.lanes.proofs.predict.predicted_at.Tie as tie
 
@@ -25,19 +25,19 @@ predict-order-1-requires : tie.Need-predict-order-1-requires
 predict-order-1-requires c κs = search needs
 
 returns-2 : tie.Need-returns-2
-returns-2 c = carried (record { sfits = c .predict-order-1 .ok }) (c .predict-order-1 .ensures) (same (c .before .before .before) (c .before .if2 .taken))
+returns-2 c = same-coefficients (record { sfits = c .predict-order-1 .ok }) (c .predict-order-1 .ensures) (same (c .before .before .before) (c .before .if2 .taken))
 
 predict-order-2-requires : tie.Need-predict-order-2-requires
 predict-order-2-requires c κs = search needs
 
 returns-3 : tie.Need-returns-3
-returns-3 c = carried (record { sfits = c .predict-order-2 .ok }) (c .predict-order-2 .ensures) (same (c .before .before .before .before) (c .before .if3 .taken))
+returns-3 c = same-coefficients (record { sfits = c .predict-order-2 .ok }) (c .predict-order-2 .ensures) (same (c .before .before .before .before) (c .before .if3 .taken))
 
 predict-order-3-requires : tie.Need-predict-order-3-requires
 predict-order-3-requires c κs = search needs
 
 returns-4 : tie.Need-returns-4
-returns-4 c = carried (record { sfits = c .predict-order-3 .ok }) (c .predict-order-3 .ensures) (same (c .before .before .before .before .before) (c .before .if4 .taken))
+returns-4 c = same-coefficients (record { sfits = c .predict-order-3 .ok }) (c .predict-order-3 .ensures) (same (c .before .before .before .before .before) (c .before .if4 .taken))
 
 predict-order-4-requires : tie.Need-predict-order-4-requires
 predict-order-4-requires c κs = search needs
@@ -45,7 +45,7 @@ predict-order-4-requires c κs = search needs
 returns-5 : tie.Need-returns-5
 returns-5 c =
     let d = c .before in let s = d .before .before .before .before in
-    carried (record { sfits = c .predict-order-4 .ok }) (c .predict-order-4 .ensures)
+    same-coefficients (record { sfits = c .predict-order-4 .ok }) (c .predict-order-4 .ensures)
     (predicted-above (xs s) (s .args .i) (d .before .before .before .if1 .left) (d .before .before .if2 .left) (d .before .if3 .left) (d .if4 .left))
 
 pub predicted-at-spec : {M : Type 1} → statement M

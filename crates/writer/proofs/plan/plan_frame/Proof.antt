@@ -1,4 +1,4 @@
--- `plan_of` meets its contract: a turn for each subframe (Planned, Counted). Assumes nothing.
+-- `plan_frame` meets its contract: a turn for each subframe (Planned, Counted). Assumes nothing.
 use Prim.Native.Nat.{_+_, _-_}
 use native.Mathlib.Omega.{arith}
 use borrow.Author.Needs.{needs}
@@ -8,8 +8,8 @@ use Rattle.rfc9639.proofs.Listing.{channels-between}
 use Rattle.writer.specs.Private.{laneChoice, laneFor}
 use Rattle.writer.proofs.Planning.{Planned, begin, step, at-end, planned-all}
 use Rattle.writer.proofs.Counting.{Counted, counted-none, counted-more, counted-all}
-use Rattle.writer.proofs.plan.plan_of.Statement.{statement}
-use Rattle.writer.proofs.plan.plan_of.Tie as tie
+use Rattle.writer.proofs.plan.plan_frame.Statement.{statement}
+use Rattle.writer.proofs.plan.plan_frame.Tie as tie
 
 abbrev Inv-loop : tie.InvT-loop
 Inv-loop samples set channels count choices₀ bits₀ c₀ choices bits c =
@@ -66,8 +66,8 @@ returns c =
       omega (arith, l .loop .inv .0 .few, l .loop .inv .0 .within, l .loop .inv .1 .small),
     )
 
-pub plan-of-spec : {M : Type 1} → statement M
-plan-of-spec =
+pub plan-frame-spec : {M : Type 1} → statement M
+plan-frame-spec =
     tie.close
     (tie.spec
     Inv-loop

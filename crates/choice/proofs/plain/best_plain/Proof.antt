@@ -1,4 +1,4 @@
--- `plainest` meets its contract: constant and verbatim have the bits that the definition says. Assumes nothing.
+-- `best_plain` meets its contract: constant and verbatim have the bits that the definition says. Assumes nothing.
 use Prim.Native.Nat.{_+_, _*_, _^_, _<_, min}
 use native.Mathlib.Omega.{arith}
 use mathlib.Core.Path.{_≡_, ap, _∙_}
@@ -8,8 +8,8 @@ use lib.ListN.{length}
 use Rattle.lanes.specs.Sources.{storedBy}
 use Rattle.rfc9639.proofs.Lengths.{stored-at-most}
 use Rattle.choice.proofs.Pricing.{plain-verbatim, plain-constant}
-use Rattle.choice.proofs.plain.plainest.Statement.{statement}
-use Rattle.choice.proofs.plain.plainest.Tie as tie
+use Rattle.choice.proofs.plain.best_plain.Statement.{statement}
+use Rattle.choice.proofs.plain.best_plain.Tie as tie
 
 stored-len-requires : tie.Need-stored-len-requires
 stored-len-requires c κs = search needs
@@ -50,8 +50,8 @@ returns-2 c =
     ∙ ap (λ m. 8 + m * s (u .before) .args .width) (d .before .lesser .ensures ∙ ap (min 1) (u .before .before .stored-len .ensures)))
     (c .better .ensures)
 
-pub plainest-spec : {M : Type 1} → statement M
-plainest-spec =
+pub best-plain-spec : {M : Type 1} → statement M
+best-plain-spec =
     tie.close
     (tie.spec
     stored-len-requires
