@@ -55,7 +55,7 @@ module _ (n : ℕ) (b : Block) (channel : ℕ) where
   channel-refuses e = rw e
 
   pub record Ranged (start end : ℕ) : Type 0 where
-    pub told : there ≡ true
+    pub is-there : there ≡ true
     pub from : start ≡ channel * b .size
     pub to : end ≡ channel * b .size + b .size
     pub inside : channel * b .size + b .size ≤ n
@@ -67,7 +67,7 @@ module _ (n : ℕ) (b : Block) (channel : ℕ) where
       go true p true q =
           let k = channel-is (rw (p, q)) in
           record {
-            told = rw (p, q);
+            is-there = rw (p, q);
             from = cc;
             to = cc;
             inside = within (b .channels) (b .size) channel n (ltb-true _ _ p) (leb-true _ _ q);
@@ -98,7 +98,7 @@ module _ (l : List ℤ) (b : Block) (channel : ℕ) where
       pub sample-is : {start end : ℕ} → Ranged (length l) b channel start end → SFits w32 (getD l (start + index) (pos 0))
           → SampleAt.Value (toZ w32 (ofZ w32 (getD l (start + index) (pos 0)))) ≡ sampleOf l b channel index
       unfolding sampleOf
-      sample-is k f = ap SampleAt.Value (toZ-ofZ f ∙ ap (λ n. getD l (n + index) (pos 0)) (k .from)) ∙ rw (lt-ltb _ _ h, k .told)
+      sample-is k f = ap SampleAt.Value (toZ-ofZ f ∙ ap (λ n. getD l (n + index) (pos 0)) (k .from)) ∙ rw (lt-ltb _ _ h, k .is-there)
 
 -- ---- a pair
 

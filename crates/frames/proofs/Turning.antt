@@ -34,16 +34,16 @@ module _ (was : List ℕ) (card : Card) (place : ℕ) (e : Refusal) (sound : Sou
   -- if the window is full, the place is its front
   pub full-refills : card .held - place ≡ length was → (r : Turn) → Stays card place r → Refills was card place e r was
   full-refills full (Turn.Over last) s =
-      record { card = ap (λ (l : Last). l .card) s; place = ap (λ (l : Last). l .place) s; how = subst (λ (l : Last). Wanting e (l .how)) (sym s) tt }
+      record { same-card = ap (λ (l : Last). l .card) s; same-place = ap (λ (l : Last). l .place) s; how = subst (λ (l : Last). Wanting e (l .how)) (sym s) tt }
   full-refills full (Turn.On next) s =
-      let z : place ≡ 0 = omega (arith, sound .inside) in
+      let z : place ≡ 0 = omega (arith, sound .held-fits) in
       record {
-        bytes = rw z refl;
+        kept = rw z refl;
         least = omega (arith, s .1);
-        base = omega (arith, s .0);
-        totals = s .2;
-        sound = record { inside = omega (arith, s .1, sound .inside); numbered = omega (arith, s .0, sound .numbered) };
-        further = omega (arith, s .0, s .1, s .3, one-pending, sound .inside, sound .numbered);
+        next-base = omega (arith, s .0);
+        same-totals = s .2;
+        sound = record { held-fits = omega (arith, s .1, sound .held-fits); numbered = omega (arith, s .0, sound .numbered) };
+        further = omega (arith, s .0, s .1, s .3, one-pending, sound .held-fits, sound .numbered);
       }
 
   module _ (moved left : List ℕ) (filled : Filled) (wanted : ℕ) (long : length moved ≡ length was)
@@ -57,11 +57,11 @@ module _ (was : List ℕ) (card : Card) (place : ℕ) (e : Refusal) (sound : Sou
 
     pub go-refills : Continues was card place (record { base = card .base + place; held = filled .held; rest = filled .rest; totals = card .totals }) left
     go-refills = record {
-      bytes = fills .kept ∙ shifted;
+      kept = fills .kept ∙ shifted;
       least = fills .least;
-      base = refl;
-      totals = refl;
-      sound = record { inside = omega (arith, fills .most, long); numbered = wide };
+      next-base = refl;
+      same-totals = refl;
+      sound = record { held-fits = omega (arith, fills .most, long); numbered = wide };
       further = omega (arith, less (filled .rest) (fills .enough), one-pending);
     }
 
@@ -111,41 +111,41 @@ module _ (room : ℕ) (was : List ℕ) (card : Card) (r : Listed) (sound : Sound
   read = record { base = card .base; held = card .held; rest = card .rest; totals = r .totals }
 
   pub place-inside : r .place ≤ card .held
-  place-inside = omega (arith, lists .inside, length-take-le (card .held) was (sound .inside))
+  place-inside = omega (arith, lists .place-fits, length-take-le (card .held) was (sound .held-fits))
 
   module _ (wait : needsOf (r .refusal) ≡ Need.Wait) where
     from-there : (more : List ℕ) → listed room (card .base) (card .totals) (w ++ more) ≡ listed room (card .base + r .place) (r .totals) (drop (r .place) w ++ more)
     from-there = goes-on-from (lawful (record { room = room })) (card .base) (card .totals) w (r .place) (lists .all) (waits (r .refusal) wait)
 
     module _ (next : Card) (left : List ℕ) (long : length left ≡ length was) (c : Continues was read (r .place) next left) where
-      abbrev kept : ℕ
-      kept = card .held - r .place
+      abbrev keptLength : ℕ
+      keptLength = card .held - r .place
 
-      abbrev brought : List ℕ
-      brought = drop kept (take (next .held) left)
+      abbrev added : List ℕ
+      added = drop keptLength (take (next .held) left)
 
-      front : drop (r .place) w ++ brought ≡ take (next .held) left
+      front : drop (r .place) w ++ added ≡ take (next .held) left
       front =
-          ap (λ (l : List ℕ). l ++ brought)
-          (drop-take (r .place) (card .held) was place-inside (omega (arith, place-inside, sound .inside)) ∙ sym (c .bytes) ∙ sym (take-take kept (next .held) left (c .least)))
-          ∙ take-append-drop kept (take (next .held) left)
+          ap (λ (l : List ℕ). l ++ added)
+          (drop-take (r .place) (card .held) was place-inside (omega (arith, place-inside, sound .held-fits)) ∙ sym (c .kept) ∙ sym (take-take keptLength (next .held) left (c .least)))
+          ∙ take-append-drop keptLength (take (next .held) left)
 
       carries : Carries room was card next left
       carries = record {
-        brought = brought;
+        added = added;
         long =
-            omega (arith, c .base, c .least, place-inside, length-drop kept (take (next .held) left), length-take-le (next .held) left (omega (arith, c .sound .inside)));
+            omega (arith, c .next-base, c .least, place-inside, length-drop keptLength (take (next .held) left), length-take-le (next .held) left (omega (arith, c .sound .held-fits)));
         same = λ more.
-            from-there (brought ++ more)
-            ∙ ap (λ (l : List ℕ). listed room (card .base + r .place) (r .totals) l) (sym (append-assoc (drop (r .place) w) brought more) ∙ ap (λ (l : List ℕ). l ++ more) front)
-            ∙ ap₂ (λ b (t : Totals). listed room b t (take (next .held) left ++ more)) (sym (c .base)) (sym (c .totals));
+            from-there (added ++ more)
+            ∙ ap (λ (l : List ℕ). listed room (card .base + r .place) (r .totals) l) (sym (append-assoc (drop (r .place) w) added more) ∙ ap (λ (l : List ℕ). l ++ more) front)
+            ∙ ap₂ (λ b (t : Totals). listed room b t (take (next .held) left ++ more)) (sym (c .next-base)) (sym (c .same-totals));
         sound = c .sound;
         further = c .further;
       }
 
     module _ (last : Last) (c : Closes read (r .place) (r .refusal) last) where
       same-end : (f : Card → ℕ → Listing) → f read (r .place) ≡ f (last .card) (last .place)
-      same-end f = ap₂ f (sym (c .card)) (sym (c .place))
+      same-end f = ap₂ f (sym (c .same-card)) (sym (c .same-place))
 
       unfinished : Unfinished room (card .base) (card .totals) w last
       unfinished = record {
@@ -162,10 +162,10 @@ module _ (room : ℕ) (was : List ℕ) (card : Card) (r : Listed) (sound : Sound
 
       stops : Stops room was card last
       stops = record {
-        base = ap (λ (k : Card). k .base) (c .card);
-        held = ap (λ (k : Card). k .held) (c .card);
-        inside = omega (arith, c .place, place-inside);
-        told = told (last .how) (c .how);
+        same-base = ap (λ (k : Card). k .base) (c .same-card);
+        same-held = ap (λ (k : Card). k .held) (c .same-card);
+        place-fits = omega (arith, c .same-place, place-inside);
+        accounts = told (last .how) (c .how);
       }
 
     pub turns : (left : List ℕ) → length left ≡ length was → (t : Turn) → Refills was read (r .place) (r .refusal) t left → Turns room was card t left
@@ -175,10 +175,10 @@ module _ (room : ℕ) (was : List ℕ) (card : Card) (r : Listed) (sound : Sound
   pub refused-stops : (n : Need) → needsOf (r .refusal) ≡ n → verdictFor n ≡ refuse
       → Stops room was card (record { card = read; place = r .place; how = How.Refused (r .refusal) })
   refused-stops n is k = record {
-    base = refl;
-    held = refl;
-    inside = place-inside;
-    told = stands-there (lawful (record { room = room })) (card .base) (card .totals) w (r .place) (lists .all) (decided (r .refusal) n is k);
+    same-base = refl;
+    same-held = refl;
+    place-fits = place-inside;
+    accounts = stands-there (lawful (record { room = room })) (card .base) (card .totals) w (r .place) (lists .all) (decided (r .refusal) n is k);
   }
 
 -- ---- from the card's first byte
@@ -204,10 +204,10 @@ module _ (room : ℕ) (w : List ℕ) (card : Card) (far : SoFar room w card) whe
   -- a turn that goes on keeps it
   pub on : (next : Card) (left : List ℕ) → Carries room w card next left → SoFar room left next
   on next left c = record {
-    seen = far .seen ++ c .brought;
-    long = omega (arith, length-append (far .seen) (c .brought), far .long, c .long);
+    seen = far .seen ++ c .added;
+    long = omega (arith, length-append (far .seen) (c .added), far .long, c .long);
     same = λ more.
-        ap (listed room 0 (record { frames = 0; samples = 0 })) (append-assoc (far .seen) (c .brought) more) ∙ far .same (c .brought ++ more) ∙ c .same more;
+        ap (listed room 0 (record { frames = 0; samples = 0 })) (append-assoc (far .seen) (c .added) more) ∙ far .same (c .added ++ more) ∙ c .same more;
   }
 
   bare : listed room 0 (record { frames = 0; samples = 0 }) (far .seen) ≡ listed room (card .base) (card .totals) (take (card .held) w)
@@ -227,8 +227,8 @@ module _ (room : ℕ) (w : List ℕ) (card : Card) (far : SoFar room w card) whe
   pub over : (width : ℕ) → Sound card width → (last : Last) → Stops room w card last → Runs room last width
   over width sound last s = record {
     seen = far .seen;
-    long = omega (arith, far .long, s .base, s .held);
-    told = all-told last (last .how) (s .told);
-    sound = record { inside = omega (arith, s .held, sound .inside); numbered = omega (arith, s .base, sound .numbered) };
-    inside = omega (arith, s .held, s .inside);
+    long = omega (arith, far .long, s .same-base, s .same-held);
+    accounts = all-told last (last .how) (s .accounts);
+    sound = record { held-fits = omega (arith, s .same-held, sound .held-fits); numbered = omega (arith, s .same-base, sound .numbered) };
+    place-fits = omega (arith, s .same-held, s .place-fits);
   }

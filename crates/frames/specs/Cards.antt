@@ -16,7 +16,7 @@ use Rattle.frames.specs.Listing.{Listing, listed}
 
 -- the bytes held fit the window, and 64 bits can number every place of the window on the card
 pub record Sound (card : Card) (room : ℕ) : Type 0 where
-  pub inside : card .held ≤ room
+  pub held-fits : card .held ≤ room
   pub numbered : card .base + room < 2 ^ 64
 
 -- 1 if there may be more of the card to read
@@ -33,10 +33,10 @@ ahead card = (2 ^ 64 - (card .base + card .held)) * 2 + pending (card .rest)
 
 -- After a refill the window starts at the place where reading stopped: the bytes from there on are at its front.
 pub record Continues (was : List ℕ) (card : Card) (place : ℕ) (next : Card) (left : List ℕ) : Type 0 where
-  pub bytes : take (card .held - place) left ≡ take (card .held - place) (drop place was)
+  pub kept : take (card .held - place) left ≡ take (card .held - place) (drop place was)
   pub least : card .held - place ≤ next .held
-  pub base : next .base ≡ card .base + place
-  pub totals : next .totals ≡ card .totals
+  pub next-base : next .base ≡ card .base + place
+  pub same-totals : next .totals ≡ card .totals
   pub sound : Sound next (length was)
   pub further : ahead next < ahead card
 
@@ -49,8 +49,8 @@ Wanting e How.TooLong = Unit {0}
 Wanting e How.TooFar = Unit {0}
 
 pub record Closes (c : Card) (at : ℕ) (e : Refusal) (last : Last) : Type 0 where
-  pub card : last .card ≡ c
-  pub place : last .place ≡ at
+  pub same-card : last .card ≡ c
+  pub same-place : last .place ≡ at
   pub how : Wanting e (last .how)
 
 -- the window is full: the run goes on with it if the card ends there, and is over if there is more
@@ -67,10 +67,10 @@ Refills was card place e (Turn.Over last) left = Closes card place e last
 
 -- A turn that goes on has read some bytes. Whatever follows them, the rest of the list is unchanged.
 pub record Carries (room : ℕ) (was : List ℕ) (card next : Card) (left : List ℕ) : Type 0 where
-  pub brought : List ℕ
-  pub long : next .base + next .held ≡ card .base + card .held + length brought
+  pub added : List ℕ
+  pub long : next .base + next .held ≡ card .base + card .held + length added
   pub same : (more : List ℕ)
-      → listed room (card .base) (card .totals) (take (card .held) was ++ (brought ++ more))
+      → listed room (card .base) (card .totals) (take (card .held) was ++ (added ++ more))
       ≡ listed room (next .base) (next .totals) (take (next .held) left ++ more)
   pub sound : Sound next (length was)
   pub further : ahead next < ahead card
@@ -95,10 +95,10 @@ Told room place t s last How.TooFar = Unfinished room place t s last
 
 -- A turn that ends the run ends it in this window.
 pub record Stops (room : ℕ) (was : List ℕ) (card : Card) (last : Last) : Type 0 where
-  pub base : last .card .base ≡ card .base
-  pub held : last .card .held ≡ card .held
-  pub inside : last .place ≤ card .held
-  pub told : Told room (card .base) (card .totals) (take (card .held) was) last (last .how)
+  pub same-base : last .card .base ≡ card .base
+  pub same-held : last .card .held ≡ card .held
+  pub place-fits : last .place ≤ card .held
+  pub accounts : Told room (card .base) (card .totals) (take (card .held) was) last (last .how)
 
 abbrev pub Turns : ℕ → List ℕ → Card → Turn → List ℕ → Type 0
 Turns room was card (Turn.On next) left = Carries room was card next left
@@ -108,6 +108,6 @@ Turns room was card (Turn.Over last) left = Stops room was card last
 pub record Runs (room : ℕ) (last : Last) (width : ℕ) : Type 0 where
   pub seen : List ℕ
   pub long : length seen ≡ last .card .base + last .card .held
-  pub told : Told room 0 (record { frames = 0; samples = 0 }) seen last (last .how)
+  pub accounts : Told room 0 (record { frames = 0; samples = 0 }) seen last (last .how)
   pub sound : Sound (last .card) width
-  pub inside : last .place ≤ last .card .held
+  pub place-fits : last .place ≤ last .card .held

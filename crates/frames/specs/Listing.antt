@@ -38,5 +38,5 @@ listed room place t s = listing place t (answers (result (record { room = room }
 
 -- The frames of some bytes, the first of which is at `base` on the card.
 pub record Lists (s : List ℕ) (base : ℕ) (before : Totals) (room : ℕ) (r : Listed) : Type 0 where
-  pub inside : r .place ≤ length s
+  pub place-fits : r .place ≤ length s
   pub all : listed room base before s ≡ record { place = base + r .place; totals = r .totals; number = numberOf (r .refusal) }

@@ -15,12 +15,12 @@ slice-reshare-prefix-list-frames c = search needs
 slice-aggregate-list-frames : tie.Need-slice-aggregate-list-frames
 slice-aggregate-list-frames c =
     let a = c .before .before in
-    sym (length-take-le (a .args .card .held) (a .args .window .now) (a .pre .inside))
+    sym (length-take-le (a .args .card .held) (a .args .window .now) (a .pre .held-fits))
 
 list-frames-requires : tie.Need-list-frames-requires
 list-frames-requires c κs =
     let a = c .before .before .before in
-    omega (arith, a .pre .inside, a .pre .numbered, length-take-le (a .args .card .held) (a .args .window .now) (a .pre .inside))
+    omega (arith, a .pre .held-fits, a .pre .numbered, length-take-le (a .args .card .held) (a .args .window .now) (a .pre .held-fits))
 
 needs-requires : tie.Need-needs-requires
 needs-requires c κs = search needs
@@ -32,7 +32,7 @@ wait-requires : tie.Need-wait-requires
 wait-requires c κs =
     let ls = c .before .before .before .before .before .before in
     let a = ls .before .before .before .before in
-    (record { inside = a .pre .inside; numbered = a .pre .numbered }, place-inside (length (a .args .samples .now)) (a .args .window .now) (a .args .card) (ls .list-frames .result) (a .pre) (ls .list-frames .ensures))
+    (record { held-fits = a .pre .held-fits; numbered = a .pre .numbered }, place-inside (length (a .args .samples .now)) (a .args .window .now) (a .args .card) (ls .list-frames .result) (a .pre) (ls .list-frames .ensures))
 
 enum-told-2 : tie.Need-enum-told-2
 enum-told-2 c = search needs

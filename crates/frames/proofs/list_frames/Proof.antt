@@ -77,7 +77,7 @@ returns c =
     let d = c .before .before .before .before in
     let l = d .before .before in
     let a = l .before .before in
-    record { inside = l .loop .inv .0; all = sym (l .loop .inv .2) ∙ step-refused (a .args .bytes .now) (length (a .args .samples .now)) (a .args .base) (l .loop .place) (l .loop .inv .1) (d .read-next .ensures) (l .loop .totals) (c .before .answer2 .given .1) }
+    record { place-fits = l .loop .inv .0; all = sym (l .loop .inv .2) ∙ step-refused (a .args .bytes .now) (length (a .args .samples .now)) (a .args .base) (l .loop .place) (l .loop .inv .1) (d .read-next .ensures) (l .loop .totals) (c .before .answer2 .given .1) }
 
 pub list-frames-spec : {M : Type 1} → statement M
 list-frames-spec =

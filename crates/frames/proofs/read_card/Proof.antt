@@ -18,12 +18,12 @@ abbrev μ-loop : tie.MeasureT-loop
 loop-holds : tie.Need-loop-holds Inv-loop μ-loop
 loop-holds c =
     let a = c .before in
-    (record { inside = omega arith; numbered = omega (arith, a .pre) }, search needs, search needs, begin (length (a .args .samples .now)) (a .args .window .now))
+    (record { held-fits = omega arith; numbered = omega (arith, a .pre) }, search needs, search needs, begin (length (a .args .samples .now)) (a .args .window .now))
 
 advance-requires : tie.Need-advance-requires Inv-loop μ-loop
 advance-requires c κs =
     let l = c .before .before in
-    record { inside = omega (arith, l .loop .inv .0 .inside, l .loop .inv .1); numbered = omega (arith, l .loop .inv .0 .numbered, l .loop .inv .1) }
+    record { held-fits = omega (arith, l .loop .inv .0 .held-fits, l .loop .inv .1); numbered = omega (arith, l .loop .inv .0 .numbered, l .loop .inv .1) }
 
 enum-known-turn : tie.Need-enum-known-turn Inv-loop μ-loop
 enum-known-turn c = search needs
@@ -44,7 +44,7 @@ loop-again c =
     let a = l .before .before in
     let n = c .before .turn .given .0 .0 in
     let g = carried (length (l .loop .samples)) (length (a .args .samples .now)) (l .loop .inv .2) (l .loop .window) (l .loop .card) n (v .advance .last .1 .1 .0) (v .advance .result) (c .before .turn .given .1) (v .advance .ensures) in
-    (record { inside = omega (arith, g .sound .inside, l .loop .inv .1); numbered = omega (arith, g .sound .numbered, l .loop .inv .1) }, v .advance .kept .1 .1 .0 ∙ l .loop .inv .1, v .advance .kept .1 .1 .1 .0 ∙ l .loop .inv .2, on (length (a .args .samples .now)) (l .loop .window) (l .loop .card) (l .loop .inv .3) n (v .advance .last .1 .1 .0) g)
+    (record { held-fits = omega (arith, g .sound .held-fits, l .loop .inv .1); numbered = omega (arith, g .sound .numbered, l .loop .inv .1) }, v .advance .kept .1 .1 .0 ∙ l .loop .inv .1, v .advance .kept .1 .1 .1 .0 ∙ l .loop .inv .2, on (length (a .args .samples .now)) (l .loop .window) (l .loop .card) (l .loop .inv .3) n (v .advance .last .1 .1 .0) g)
 
 enum-known-turn-2 : tie.Need-enum-known-turn-2 Inv-loop μ-loop
 enum-known-turn-2 c = search needs
