@@ -46,19 +46,19 @@ fi
 cd "$here" || exit 2
 . ./kit.sh
 hold_kit frames.sh
-program=target/bin/frames
+program=target/bin/frame_list
 if [ ! -f "$program" ] || [ -n "$(find crates crates.txt -newer "$program" | head -n 1)" ]; then
     echo "frames.sh: proving and building the reader (some minutes on a fresh clone)" >&2
     work=$(mktemp -d) || exit 2
     trap 'rm -rf "$work"' EXIT
     : >"$work/started"
-    if ! rt check frames >"$work/log" 2>&1; then
+    if ! rt check frame_list >"$work/log" 2>&1; then
         tail -n 5 "$work/log" >&2
         fail "the reader does not build"
     fi
     touch -r "$work/started" "$program"
 fi
-sh run.sh frames ${card:+"$card"} | awk '
+sh run.sh frame_list ${card:+"$card"} | awk '
     { print; word = $1 }
     END {
         if (word == "ended:") exit 0

@@ -100,7 +100,7 @@ def card_frames():
 # ---- what must be said
 
 
-def told(frames, tail=b"", opening="", cut=False):
+def expected(frames, tail=b"", opening="", cut=False):
     """The lines and the status for a card of these frames, with `tail` or an incomplete frame after them."""
     lines, at = [], 0
     for f in frames:
@@ -116,7 +116,7 @@ def told(frames, tail=b"", opening="", cut=False):
 
 
 def limited(frames):
-    lines, _ = told(frames)
+    lines, _ = expected(frames)
     at = sum(len(f.data) for f in frames)
     last = lines[-1].split(";")[0].split(" ", 1)[1]
     return lines[:-1] + [f"limit: {last}; what stands at byte {at} is longer than this program's window of {WINDOW} bytes"], 2
@@ -145,25 +145,25 @@ def cards():
     big = largest(rng)
     odd = [small[0], six, filler(9001, rng), small[3], filler(65546, rng), small[1]]
     whole = small * 3
-    yield "empty", b"", told([])
-    yield "card.bin", joined(small), told(small)
-    yield "six channels", joined([six]), told([six])
-    yield "the largest block", joined([big]), told([big])
-    yield "the largest block twice", joined([small[0], big, big]), told([small[0], big, big])
+    yield "empty", b"", expected([])
+    yield "card.bin", joined(small), expected(small)
+    yield "six channels", joined([six]), expected([six])
+    yield "the largest block", joined([big]), expected([big])
+    yield "the largest block twice", joined([small[0], big, big]), expected([small[0], big, big])
     for length in (32767, 32768, 32769, 47741, WINDOW - 1, WINDOW, WINDOW + 1, 2 * WINDOW, 5 * WINDOW + 77):
         frames = repeated(odd, length, rng)
-        yield f"{length} bytes", joined(frames), told(frames)
-        yield f"{length} bytes, the last one gone", joined(frames)[:-1], told(frames[:-1], cut=True)
+        yield f"{length} bytes", joined(frames), expected(frames)
+        yield f"{length} bytes, the last one gone", joined(frames)[:-1], expected(frames[:-1], cut=True)
     for length in (32768, WINDOW, 3 * WINDOW):
         frames = repeated(odd, length, rng)
-        yield f"a frame after {length} bytes", joined(frames + small), told(frames + small)
-        yield f"a byte after {length} bytes", joined(frames, b"\xff"), told(frames, b"\xff")
-        yield f"garbage after {length} bytes", joined(frames, b"\x00\x01"), told(frames, b"\x00\x01")
+        yield f"a frame after {length} bytes", joined(frames + small), expected(frames + small)
+        yield f"a byte after {length} bytes", joined(frames, b"\xff"), expected(frames, b"\xff")
+        yield f"garbage after {length} bytes", joined(frames, b"\x00\x01"), expected(frames, b"\x00\x01")
     for n in (1, 2, 3, 7, 438, 2823):
         at, i = 0, 0
         while at + len(small[i].data) <= n:
             at, i = at + len(small[i].data), i + 1
-        yield f"card.bin cut to {n} bytes", joined(small)[:n], told(small[:i], joined(small)[at:n])
+        yield f"card.bin cut to {n} bytes", joined(small)[:n], expected(small[:i], joined(small)[at:n])
     wrong = {
         "no sync code": b"fLaX and more",
         "a reserved value": bytes.fromhex("fff800"),
@@ -174,22 +174,22 @@ def cards():
         "the frame's sum": frame(header(), [constant(5, 16)], wrong=1) + bytes(40),
     }
     for name, tail in wrong.items():
-        yield f"{name} at the start", tail, told([], tail)
-        yield f"{name} after frames", joined(whole, tail), told(whole, tail)
+        yield f"{name} at the start", tail, expected([], tail)
+        yield f"{name} after frames", joined(whole, tail), expected(whole, tail)
     yield from long_ones(small)
     yield from streams(small)
 
 
 def long_ones(small):
     """Frames as long as the window, and longer."""
-    yield "a frame as long as the window", joined([long_frame(WINDOW)]), told([long_frame(WINDOW)])
+    yield "a frame as long as the window", joined([long_frame(WINDOW)]), expected([long_frame(WINDOW)])
     after = [small[0], long_frame(WINDOW), small[1]]
-    yield "frames around one as long as the window", joined(after), told(after)
+    yield "frames around one as long as the window", joined(after), expected(after)
     longer = long_frame(WINDOW + 1).data
     yield "a frame longer than the window", longer, limited([])
     yield "a frame longer than the window, after others", joined(small, longer), limited(small)
-    yield "the same, cut to the window", longer[:WINDOW], told([], cut=True)
-    yield "the same, after others and cut to the window", joined(small, longer[:WINDOW]), told(small, cut=True)
+    yield "the same, cut to the window", longer[:WINDOW], expected([], cut=True)
+    yield "the same, after others and cut to the window", joined(small, longer[:WINDOW]), expected(small, cut=True)
     yield "zeros after a header, to the window's end", header(size=16) + bytes([0x10, 0]) + bytes(3 * WINDOW), limited([])
 
 
@@ -206,11 +206,11 @@ def streams(small):
         "blocks to the window's end": [block(0, 34), block(1, WINDOW - 4 - 38 - 4, True)],
     }.items():
         head = b"fLaC" + b"".join(blocks)
-        yield f"a stream header, {name}", head + joined(small), told([], head[:4], f"{said}; bare frames start at byte {len(head)}")
+        yield f"a stream header, {name}", head + joined(small), expected([], head[:4], f"{said}; bare frames start at byte {len(head)}")
     far = b"fLaC" + block(0, 34) + block(1, WINDOW, True) + joined(small)
     for name, card in {"past the window": far, "cut short": far[:50], "cut in a block's head": far[:44], "and no more": b"fLaC"}.items():
-        yield f"a stream header, {name}", card, told([], b"fLaC", said)
-    yield "fLaC after a frame", joined(small[:1], b"fLaC"), told(small[:1], b"fLaC")
+        yield f"a stream header, {name}", card, expected([], b"fLaC", said)
+    yield "fLaC after a frame", joined(small[:1], b"fLaC"), expected(small[:1], b"fLaC")
 
 
 # ---- the runs
@@ -253,11 +253,11 @@ def pipes(tally, small, longer):
     """Standard input: in one piece, in many, and with pauses between them."""
     rng, data = random.Random(7), joined(small)
     long = small * 1500
-    tally.hold("a pipe", run(["-"], [joined(long)])[0], told(long))
-    tally.hold("a pipe with nothing in it", run(["-"], [])[0], told([]))
-    tally.hold("a pipe with pauses", run(["-"], pieces(data, rng, 100), 0.01)[0], told(small))
-    tally.hold("a pipe with pauses, cut short", run(["-"], pieces(data[:-1], rng, 100), 0.01)[0], told(small[:-1], small[-1].data[:-1]))
-    tally.hold("a stream header by pieces", run(["-"], [b"f", b"LaC\x80\x00", b"\x00\x02ab"], 0.05)[0], told([], b"fL", ": a stream header (fLaC), which is not read yet; bare frames start at byte 10"))
+    tally.hold("a pipe", run(["-"], [joined(long)])[0], expected(long))
+    tally.hold("a pipe with nothing in it", run(["-"], [])[0], expected([]))
+    tally.hold("a pipe with pauses", run(["-"], pieces(data, rng, 100), 0.01)[0], expected(small))
+    tally.hold("a pipe with pauses, cut short", run(["-"], pieces(data[:-1], rng, 100), 0.01)[0], expected(small[:-1], small[-1].data[:-1]))
+    tally.hold("a stream header by pieces", run(["-"], [b"f", b"LaC\x80\x00", b"\x00\x02ab"], 0.05)[0], expected([], b"fL", ": a stream header (fLaC), which is not read yet; bare frames start at byte 10"))
     tally.hold("a pipe with a frame longer than the window", run(["-"], [longer])[0], limited([]))
 
 
@@ -265,8 +265,8 @@ def words(tally, folder, small):
     """How the script is called, and cards that cannot be read."""
     card = os.path.join(folder, "a card's name, with blanks")
     open(card, "wb").write(joined(small))
-    tally.hold("a name with blanks", run([card])[0], told(small))
-    tally.hold("no name", run([])[0], told(small))
+    tally.hold("a name with blanks", run([card])[0], expected(small))
+    tally.hold("no name", run([])[0], expected(small))
     unread = "unread: frames 0, samples 0; the card could not be read after byte 0: error"
     tally.hold("a read that fails", run(["/proc/self/mem"])[0], ([f"{unread} 5"], 2))
     for name, given, status, word in [
@@ -280,7 +280,7 @@ def words(tally, folder, small):
         (lines, got), err = run(given)
         tally.hold(name, (["usage: "] if lines and lines[0].startswith("usage: ") else lines, got), (["usage: "] if status == 0 else [], status))
         tally.hold(name + ", in words", ([err[: len(word)]], 0), ([word], 0))
-    program = ["sh", os.path.join(HERE, "..", "run.sh"), "frames"]
+    program = ["sh", os.path.join(HERE, "..", "run.sh"), "frame_list"]
     for name, given, line in [("a directory", [folder], f"{unread} 21"), ("a missing file", [card + "x"], "unread: frames 0, samples 0; the card could not be opened: error 2"), ("two names", [card, card], "unread: frames 0, samples 0; more than one card is named")]:
         tally.hold(f"the program, {name}", (subprocess.run(program + given, stdout=subprocess.PIPE).stdout.decode().splitlines(), 0), ([line], 0))
 

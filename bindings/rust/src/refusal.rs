@@ -127,7 +127,7 @@ pub enum Need {
     Final,
 }
 
-/// The cause in words, as the program `frames` says it.
+/// The cause in words, as the program `frame_list` says it.
 impl fmt::Display for Refusal {
     fn fmt(&self, f: &mut fmt::Formatter<'_>) -> fmt::Result {
         f.write_str(match self {

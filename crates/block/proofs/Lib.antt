@@ -1,4 +1,4 @@
 -- Laws of a block's parts, and that each function has one outcome.
-pub mod Blocks
-pub mod Filling
+pub mod BlockAccess
+pub mod FilledSamples
 pub mod Outcome

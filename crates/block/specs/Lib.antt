@@ -1,3 +1,3 @@
 -- What access to a block's samples answers, and the number and values of each answer.
-pub mod Blocks
+pub mod BlockAccess
 pub mod Reports

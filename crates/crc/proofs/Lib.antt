@@ -1,6 +1,6 @@
 -- Laws of the check sums.
-pub mod Xor
-pub mod Sums
-pub mod Entries
-pub mod Summed
+pub mod XorLaws
+pub mod CrcLinearity
+pub mod ByteTable
+pub mod SummedBytes
 pub mod Outcome

@@ -8,13 +8,13 @@ use lib.IntN.{ℤ}
 use lib.ListN.{length, take, drop, length-append, length-drop}
 use lib.Seq.{drop-append-le, take-append-seam, drop-append-seam}
 use Rattle.reading.specs.Places.{placeOf}
-use Rattle.reading.proofs.Holding.{Meets, holds-at, Sized, Every}
+use Rattle.reading.proofs.Postconditions.{Meets, holds-at, Sized, Every}
 use Rattle.rfc9639.specs.Header.{sampleCount}
-use Rattle.rfc9639.specs.Frame.{Settings}
+use Rattle.rfc9639.specs.Frame.{ReaderSettings}
 use Rattle.rfc9639.specs.Read.{accepted, Result, result, Outcome, read}
-use Rattle.demands.proofs.Frames.{Listed}
-use Rattle.demands.proofs.Samples.{Sample, Whole, frame-holds}
-use Rattle.demands.proofs.Answers
+use Rattle.demands.proofs.Headers.{Listed}
+use Rattle.demands.proofs.FrameSamples.{Sample, FrameInRoom, frame-holds}
+use Rattle.demands.proofs.Results
 use Rattle.demands.proofs.FrameByFrame
 
 -- All of it follows from the prefix rules, which hold for every reader (crate `reading`), and from no detail of the
@@ -32,22 +32,22 @@ read-is s b = refl
 
 pub never-unsaid : (s t : List ℕ) (b : List ℤ) → read s b .report .number ≢ 1 → read s b .report .number ≢ 2 → read (s ++ t) b ≡ read s b
 unfolding read
-never-unsaid s t b one two = read-is (s ++ t) b ∙ ap (filled b) (Answers.extended (record { room = length b }) s t one two) ∙ sym (read-is s b)
+never-unsaid s t b one two = read-is (s ++ t) b ∙ ap (filled b) (Results.extended (record { room = length b }) s t one two) ∙ sym (read-is s b)
 
 -- ---- 2. An accepted frame: its consumed bytes alone give its answer and buffer; fewer give 2, and none give 1.
 
 module _ (s : List ℕ) (b : List ℤ) (frame : read s b .report .number ≡ 0) where
   pub counted-there : read s b .report .consumed ≤ length s
   unfolding read
-  counted-there = Answers.there (record { room = length b }) s frame
+  counted-there = Results.there (record { room = length b }) s frame
 
   pub counted-suffice : read (take (read s b .report .consumed) s) b ≡ read s b
   unfolding read
-  counted-suffice = read-is _ b ∙ ap (filled b) (Answers.suffice (record { room = length b }) s frame) ∙ sym (read-is s b)
+  counted-suffice = read-is _ b ∙ ap (filled b) (Results.suffice (record { room = length b }) s frame) ∙ sym (read-is s b)
 
   pub fewer-cut-short : (m : ℕ) → 0 < m → m < read s b .report .consumed → read (take m s) b .report .number ≡ 2
   unfolding read
-  fewer-cut-short m some l = Answers.fewer (record { room = length b }) s frame m some l
+  fewer-cut-short m some l = Results.fewer (record { room = length b }) s frame m some l
 
 pub nothing-left : (b : List ℤ) → read [] b .report .number ≡ 1
 unfolding read
@@ -64,11 +64,11 @@ pub more-room : (s : List ℕ) (b more : List ℤ) → read s b .report .number 
     → read s (b ++ more) ≡ record { report = read s b .report; buffer = read s b .buffer ++ more }
 unfolding read filled
 more-room s b more lacks =
-    let set : Settings = record { room = length b } in
+    let set : ReaderSettings = record { room = length b } in
     let front = result set s .front in
-    ap (filled (b ++ more)) (Answers.roomier (length b) (length (b ++ more)) (omega (arith, length-append b more)) s lacks)
+    ap (filled (b ++ more)) (Results.roomier (length b) (length (b ++ more)) (omega (arith, length-append b more)) s lacks)
     ∙ ap (λ (l : List ℤ). record { report = result set s .report; buffer = l })
-    (ap (λ (l : List ℤ). front ++ l) (drop-append-le (length front) b more (Answers.front-room set s)) ∙ sym (append-assoc front (drop (length front) b) more))
+    (ap (λ (l : List ℤ). front ++ l) (drop-append-le (length front) b more (Results.front-room set s)) ∙ sym (append-assoc front (drop (length front) b) more))
 
 -- ---- 4. What the buffer held before does not affect the answer, and remains only where nothing is written.
 
@@ -79,23 +79,23 @@ written s room = length (result (record { room = room }) s .front)
 -- they are within the buffer
 pub written-room : (s : List ℕ) (room : ℕ) → written s room ≤ room
 unfolding written
-written-room s room = Answers.front-room (record { room = room }) s
+written-room s room = Results.front-room (record { room = room }) s
 
 written-first : (s : List ℕ) (b : List ℤ) → take (written s (length b)) (read s b .buffer) ≡ result (record { room = length b }) s .front
 unfolding read written
 written-first s b = take-append-seam (result (record { room = length b }) s .front) _
 
-pub untouched-behind : (s : List ℕ) (b : List ℤ) → drop (written s (length b)) (read s b .buffer) ≡ drop (written s (length b)) b
+pub untouched-after : (s : List ℕ) (b : List ℤ) → drop (written s (length b)) (read s b .buffer) ≡ drop (written s (length b)) b
 unfolding read written
-untouched-behind s b = drop-append-seam (result (record { room = length b }) s .front) _
+untouched-after s b = drop-append-seam (result (record { room = length b }) s .front) _
 
 module _ (s : List ℕ) (b b′ : List ℤ) (e : length b ≡ length b′) where
-  pub unswayed-report : read s b .report ≡ read s b′ .report
+  pub report-ignores-buffer : read s b .report ≡ read s b′ .report
   unfolding read
-  unswayed-report = ap (λ n. result (record { room = n }) s .report) e
+  report-ignores-buffer = ap (λ n. result (record { room = n }) s .report) e
 
-  pub unswayed-front : take (written s (length b)) (read s b .buffer) ≡ take (written s (length b)) (read s b′ .buffer)
-  unswayed-front =
+  pub front-ignores-buffer : take (written s (length b)) (read s b .buffer) ≡ take (written s (length b)) (read s b′ .buffer)
+  front-ignores-buffer =
       written-first s b ∙ ap (λ n. result (record { room = n }) s .front) e ∙ sym (written-first s b′)
       ∙ ap (λ n. take (written s n) (read s b′ .buffer)) (sym e)
 
@@ -104,22 +104,22 @@ module _ (s : List ℕ) (b b′ : List ℤ) (e : length b ≡ length b′) where
 
 pub number-listed : (s : List ℕ) (b : List ℤ) → read s b .report .number ≤ 10
 unfolding read
-number-listed s b = Answers.number-listed (record { room = length b }) s
+number-listed s b = Results.number-listed (record { room = length b }) s
 
 pub length-kept : (s : List ℕ) (b : List ℤ) → length (read s b .buffer) ≡ length b
 unfolding read
 length-kept s b =
-    let set : Settings = record { room = length b } in
+    let set : ReaderSettings = record { room = length b } in
     let front = result set s .front in
-    length-append front (drop (length front) b) ∙ omega (arith, length-drop (length front) b, Answers.front-room set s)
+    length-append front (drop (length front) b) ∙ omega (arith, length-drop (length front) b, Results.front-room set s)
 
 module _ (s : List ℕ) (b : List ℤ) (frame-read : read s b .report .number ≡ 0) where
   samples-sized : Sized (read s b .report .channels * read s b .report .size) Sample (result (record { room = length b }) s .front)
   unfolding read sampleCount accepted
   samples-sized =
-      let set : Settings = record { room = length b } in
-      let r = Answers.zero-read set s frame-read in
-      let w = subst (Meets Listed (Whole set)) (r .ran) (holds-at Listed (Whole set) s (placeOf 0) (frame-holds set)) in
+      let set : ReaderSettings = record { room = length b } in
+      let r = Results.zero-read set s frame-read in
+      let w = subst (Meets Listed (FrameInRoom set)) (r .ran) (holds-at Listed (FrameInRoom set) s (placeOf 0) (frame-holds set)) in
       subst (λ (q : Result). Sized (q .report .channels * q .report .size) Sample (q .front)) (sym (r .is)) (w .samples)
 
   pub accepted-count : written s (length b) ≡ read s b .report .channels * read s b .report .size

@@ -4,23 +4,23 @@ use native.Mathlib.Omega.{arith}
 use mathlib.Core.Path.{_≡_, refl, ap, sym, _∙_}
 use mathlib.Core.List.{List, [], _∷_, _++_}
 use lib.ListN.{length, take, drop, length-drop}
-use Rattle.reading.specs.Reading.{bitsFrom, answer, follow, run, _>>=_, bits}
+use Rattle.reading.specs.Readers.{bitsFrom, reply, follow, run, _>>=_, bits}
 use Rattle.reading.specs.Bytes.{bitsOfBytes}
 use Rattle.reading.specs.Places.{runAt, inside, toAt}
 use Rattle.rfc9639.specs.Header.{sync, codes, header}
-use Rattle.rfc9639.specs.Frame.{Settings, opening}
+use Rattle.rfc9639.specs.Frame.{ReaderSettings, opening}
 use Rattle.rfc9639.specs.Read.{Result, refusal, untouched, cutShort, begun, resultOf, result}
-use Rattle.rfc9639.specs.FrameByFrame.{Verdict, accept, undecided, refuse, verdictOf, verdict, goesOn, answersIn, answers}
-use Rattle.demands.proofs.Answers
+use Rattle.rfc9639.specs.FrameByFrame.{Verdict, accept, undecided, refuse, verdictOf, verdict, goesOn, answersUpTo, answers}
+use Rattle.demands.proofs.Results
 
 -- ---- verdicts and numbers
 
-pub frame-zero : (n : ℕ) → verdictOf n ≡ accept → n ≡ 0
+pub accept-zero : (n : ℕ) → verdictOf n ≡ accept → n ≡ 0
 unfolding verdictOf
-frame-zero zero e = refl
-frame-zero (suc zero) e = absurd (let z : _≡_ {A = ℕ} 0 1 = cc in omega arith)
-frame-zero (suc (suc zero)) e = absurd (let z : _≡_ {A = ℕ} 0 1 = cc in omega arith)
-frame-zero (suc (suc (suc n))) e = absurd (let z : _≡_ {A = ℕ} 0 1 = cc in omega arith)
+accept-zero zero e = refl
+accept-zero (suc zero) e = absurd (let z : _≡_ {A = ℕ} 0 1 = cc in omega arith)
+accept-zero (suc (suc zero)) e = absurd (let z : _≡_ {A = ℕ} 0 1 = cc in omega arith)
+accept-zero (suc (suc (suc n))) e = absurd (let z : _≡_ {A = ℕ} 0 1 = cc in omega arith)
 
 -- equal numbers have the same verdict
 pub verdict-is : {n m : ℕ} {k : Verdict} → n ≡ m → verdictOf m ≡ k → verdictOf n ≡ k
@@ -45,33 +45,33 @@ module _ {one : List ℕ → Result} (law : Lawful one) where
   rest-less s e = let a = law .there s e in let b = law .some s e in omega (arith, length-drop (one s .report .consumed) s)
 
   -- the limit on the number of answers does not matter once it is above the number of bytes
-  enough : (n m : ℕ) (s : List ℕ) → length s < n → length s < m → answersIn n one s ≡ answersIn m one s
-  unfolding answersIn goesOn
+  enough : (n m : ℕ) (s : List ℕ) → length s < n → length s < m → answersUpTo n one s ≡ answersUpTo m one s
+  unfolding answersUpTo goesOn
   enough zero m s h g = absurd (omega arith)
   enough (suc n) zero s h g = absurd (omega arith)
   enough (suc n) (suc m) s h g = ap (λ (l : List Result). one s ∷ l) (go (verdict (one s)) refl (enough n m (rest s)))
     where
-      go : (k : Verdict) → verdict (one s) ≡ k → (length (rest s) < n → length (rest s) < m → answersIn n one (rest s) ≡ answersIn m one (rest s))
-          → goesOn k (answersIn n one (rest s)) ≡ goesOn k (answersIn m one (rest s))
+      go : (k : Verdict) → verdict (one s) ≡ k → (length (rest s) < n → length (rest s) < m → answersUpTo n one (rest s) ≡ answersUpTo m one (rest s))
+          → goesOn k (answersUpTo n one (rest s)) ≡ goesOn k (answersUpTo m one (rest s))
       go accept e again = let l = rest-less s e in again (omega arith) (omega arith)
       go undecided e again = refl
       go refuse e again = refl
 
   -- the first answer and, after a frame, the answers to what follows it
-  pub unrolled : (s : List ℕ) → answers one s ≡ one s ∷ goesOn (verdict (one s)) (answers one (rest s))
-  unfolding answers answersIn goesOn
-  unrolled s = ap (λ (l : List Result). one s ∷ l) (go (verdict (one s)) refl)
+  pub answers-unrolled : (s : List ℕ) → answers one s ≡ one s ∷ goesOn (verdict (one s)) (answers one (rest s))
+  unfolding answers answersUpTo goesOn
+  answers-unrolled s = ap (λ (l : List Result). one s ∷ l) (go (verdict (one s)) refl)
     where
-      go : (k : Verdict) → verdict (one s) ≡ k → goesOn k (answersIn (length s) one (rest s)) ≡ goesOn k (answersIn (suc (length (rest s))) one (rest s))
+      go : (k : Verdict) → verdict (one s) ≡ k → goesOn k (answersUpTo (length s) one (rest s)) ≡ goesOn k (answersUpTo (suc (length (rest s))) one (rest s))
       go accept e = let l = rest-less s e in enough (length s) (suc (length (rest s))) (rest s) (omega arith) (omega arith)
       go undecided e = refl
       go refuse e = refl
 
 -- ---- the definition's reading obeys these laws
 
-module _ (set : Settings) where
+module _ (set : ReaderSettings) where
   pub nothing-left : result set [] .report .number ≡ 1
-  unfolding result begun opening header codes sync bits _>>=_ runAt inside toAt run follow answer bitsFrom bitsOfBytes resultOf untouched refusal cutShort
+  unfolding result begun opening header codes sync bits _>>=_ runAt inside toAt run follow reply bitsFrom bitsOfBytes resultOf untouched refusal cutShort
   nothing-left = refl
 
   -- An accepted frame has at least one byte: its consumed bytes alone are a frame, and an empty input is none.
@@ -81,7 +81,7 @@ module _ (set : Settings) where
       go : (n : ℕ) → result set s .report .consumed ≡ n → 0 < n
       go zero e =
           absurd
-          (let same = sym (ap (λ n. result set (take n s)) e) ∙ Answers.suffice set s z in
+          (let same = sym (ap (λ n. result set (take n s)) e) ∙ Results.suffice set s z in
           let one = nothing-left in
           omega (arith, ap (λ (r : Result). r .report .number) same))
       go (suc n) e = omega arith
@@ -89,7 +89,7 @@ module _ (set : Settings) where
   pub lawful : Lawful (result set)
   unfolding verdictOf
   lawful = record {
-    extended = λ s t known. Answers.extended set s t (λ e. known (verdict-is e refl)) (λ e. known (verdict-is e refl));
-    there = λ s e. Answers.there set s (frame-zero (result set s .report .number) e);
-    some = λ s e. some-byte s (frame-zero (result set s .report .number) e);
+    extended = λ s t known. Results.extended set s t (λ e. known (verdict-is e refl)) (λ e. known (verdict-is e refl));
+    there = λ s e. Results.there set s (accept-zero (result set s .report .number) e);
+    some = λ s e. some-byte s (accept-zero (result set s .report .number) e);
   }

@@ -1,9 +1,9 @@
 -- What the definition of a frame guarantees by itself.
-pub mod Frames
-pub mod Runs
-pub mod Samples
-pub mod Answers
+pub mod Headers
+pub mod FrameRuns
+pub mod FrameSamples
+pub mod Results
 pub mod FrameByFrame
 pub mod Demand3
-pub mod Table
-pub mod Cases
+pub mod BufferTable
+pub mod ResultCases

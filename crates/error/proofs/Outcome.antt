@@ -4,7 +4,7 @@ use native.Mathlib.Omega.{arith}
 use mathlib.Core.Path.{_≡_, refl, ap, sym, _∙_}
 use mathlib.Core.List.{List, [], _∷_}
 use lib.ListN.{getD}
-use Rattle.reading.proofs.Outcome.{OneOutcome, one}
+use Rattle.reading.proofs.Outcome.{OneOutcome, one-value}
 use Rattle.error.specs.declared.Refusal.{Refusal}
 use Rattle.error.specs.declared.Refusal.the-variants.{NothingLeft, CutShort, NotSync, Reserved, BadNumber, HeaderSum, NoRoom, NotDone, BadShape, FrameSum, BadArgument, SampleRange, OutputRoom}
 use Rattle.error.specs.Numbers.{numberOf}
@@ -12,10 +12,10 @@ use Rattle.error.proofs.number_of
 use Rattle.error.proofs.needs
 
 pub number-of-one : OneOutcome number_of.ended number_of.Reads.Learnt
-number-of-one κs args r r′ left left′ p q = (one p q, refl)
+number-of-one κs args r r′ left left′ p q = (one-value p q, refl)
 
 pub needs-one : OneOutcome needs.ended needs.Reads.Learnt
-needs-one κs args r r′ left left′ p q = (one p q, refl)
+needs-one κs args r r′ left left′ p q = (one-value p q, refl)
 
 every : List Refusal
 every = NothingLeft ∷ CutShort ∷ NotSync ∷ Reserved ∷ BadNumber ∷ HeaderSum ∷ NoRoom ∷ NotDone ∷ BadShape ∷ FrameSum ∷ BadArgument ∷ SampleRange ∷ OutputRoom ∷ []

@@ -1,7 +1,7 @@
 -- The number of each refusal: what the definition's `stop` and a report carry.
 use Prim.Native.Nat.{ℕ}
 use lib.Dec.{eqb}
-use Rattle.reading.specs.Reading.{if_then_else_}
+use Rattle.reading.specs.Readers.{if_then_else_}
 use Rattle.reading.specs.Places.{At, refusedAt, shortAt}
 use Rattle.error.specs.declared.Refusal.{Refusal}
 use Rattle.error.specs.declared.Refusal.the-variants.{NothingLeft, CutShort, NotSync, Reserved, BadNumber, HeaderSum, NoRoom, NotDone, BadShape, FrameSum, BadArgument, SampleRange, OutputRoom}

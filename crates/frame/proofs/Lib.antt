@@ -1,7 +1,7 @@
 -- Laws for the proofs of the frame reader, its one outcome, and laws for its callers.
-pub mod Answering
-pub mod Channels
-pub mod Footing
-pub mod Joining
+pub mod AnswerCases
+pub mod FrameBody
+pub mod FrameFooter
+pub mod StereoPairs
 pub mod Outcome
-pub mod Taking
+pub mod Callers

@@ -4,10 +4,10 @@ use mathlib.Core.List.{List}
 use lib.IntN.{ℤ}
 use Rattle.error.specs.Numbers.{numberOf}
 use Rattle.rfc9639.specs.Read.{Report, refusal, Outcome}
-use Rattle.frame.specs.declared.Answer.{Answer}
+use Rattle.frame.specs.declared.ReadAnswer.{ReadAnswer}
 
-abbrev pub reportOf : Answer → Report
-reportOf (Answer.Frame f) = record {
+abbrev pub reportOf : ReadAnswer → Report
+reportOf (ReadAnswer.Frame f) = record {
   number = 0;
   consumed = f .consumed;
   first = f .first;
@@ -15,9 +15,9 @@ reportOf (Answer.Frame f) = record {
   bits = f .bits;
   size = f .size;
 }
-reportOf (Answer.Refused e) = refusal (numberOf e)
+reportOf (ReadAnswer.Refused e) = refusal (numberOf e)
 
 -- the answer and the buffer are those of the definition
-pub record Reads (o : Outcome) (r : Answer) (left : List ℤ) : Type 0 where
+pub record Reads (o : Outcome) (r : ReadAnswer) (left : List ℤ) : Type 0 where
   pub report : reportOf r ≡ o .report
   pub samples : left ≡ o .buffer

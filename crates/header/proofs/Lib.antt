@@ -1,7 +1,7 @@
 -- Laws for the proofs of the header's functions, and for the caller of `read_header`.
-pub mod Stepping
+pub mod ReaderSteps
 pub mod StoredSum
-pub mod Moving
-pub mod Coding
-pub mod Heading
+pub mod ByteAlignment
+pub mod CodedNumber
+pub mod HeaderParts
 pub mod Outcome

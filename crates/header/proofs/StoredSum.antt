@@ -6,11 +6,11 @@ use borrow.Author.Tests.{eq-eqb, ne-eqb}
 use lib.Dec.{eqb}
 use lib.ListN.{take}
 use Rattle.reading.specs.declared.Place.{Place}
-use Rattle.reading.specs.Reading.{Ask, _>>=_, bits, passed, require}
+use Rattle.reading.specs.Readers.{Ask, _>>=_, bits, passed, require}
 use Rattle.reading.specs.Bytes.{bitsOfBytes}
 use Rattle.reading.specs.Places.{gotAt, refusedAt, shortAt, runAt}
-use Rattle.reading.proofs.Running.{In, stays-in, runAt-done, runAt-stop, bind-got, bind-short}
-use Rattle.reading.proofs.Prefixes.{passed-bytes}
+use Rattle.reading.proofs.ByteRuns.{In, stays-in, runAt-done, runAt-stop, bind-got, bind-short}
+use Rattle.reading.proofs.BytePrefixes.{passed-bytes}
 
 -- a sum of `width` bits over all that was read before it; n is the refusal of another sum
 abbrev pub stored : ℕ → (List ℕ → ℕ) → ℕ → Ask (Unit {0})

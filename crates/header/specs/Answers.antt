@@ -5,9 +5,9 @@ use Rattle.rfc9639.specs.declared.FrameHeader.{FrameHeader}
 use Rattle.header.specs.declared.Checked.{Checked}
 use Rattle.header.specs.declared.HeaderRead.{HeaderRead}
 
-abbrev pub headed : HeaderRead → At FrameHeader
-headed (HeaderRead.Header h p) = gotAt h p
-headed (HeaderRead.Refused e) = refusedBy e
+abbrev pub headerAt : HeaderRead → At FrameHeader
+headerAt (HeaderRead.Header h p) = gotAt h p
+headerAt (HeaderRead.Refused e) = refusedBy e
 
 abbrev pub checkedAt : Checked → At (Unit {0})
 checkedAt (Checked.Passed p) = gotAt tt p

@@ -2,10 +2,10 @@
 use Prim.Native.Nat.{ℕ}
 use mathlib.Core.Path.{_≡_, refl, ap, sym, _∙_}
 use Rattle.reading.specs.Places.{At, gotAt, refusedAt, shortAt}
-use Rattle.reading.proofs.Outcome.{OneOutcome, one}
+use Rattle.reading.proofs.Outcome.{OneOutcome, one-value}
 use Rattle.input.specs.declared.Bits.{Bits}
 use Rattle.input.specs.declared.Bits.the-variants.{Value, Short}
-use Rattle.input.specs.Answers.{means}
+use Rattle.input.specs.Answers.{bitsAt}
 use Rattle.input.proofs.read_bits
 use Rattle.input.proofs.read_unary
 
@@ -14,17 +14,17 @@ back (gotAt v p) = Value v p
 back (refusedAt n) = Short
 back shortAt = Short
 
-back-means : (r : Bits) → back (means r) ≡ r
+back-means : (r : Bits) → back (bitsAt r) ≡ r
 unfolding back
 back-means (Value v p) = refl
 back-means Short = refl
 
 -- answers with the same meaning are equal
-pub means-one : (r r′ : Bits) → means r ≡ means r′ → r ≡ r′
+pub means-one : (r r′ : Bits) → bitsAt r ≡ bitsAt r′ → r ≡ r′
 means-one r r′ e = sym (back-means r) ∙ ap back e ∙ back-means r′
 
 pub read-bits-one : OneOutcome read_bits.ended read_bits.Reads.Learnt
-read-bits-one κs args r r′ left left′ p q = (means-one r r′ (one p q), refl)
+read-bits-one κs args r r′ left left′ p q = (means-one r r′ (one-value p q), refl)
 
 pub read-unary-one : OneOutcome read_unary.ended read_unary.Reads.Learnt
-read-unary-one κs args r r′ left left′ p q = (means-one r r′ (one p q), refl)
+read-unary-one κs args r r′ left left′ p q = (means-one r r′ (one-value p q), refl)

@@ -1,14 +1,14 @@
 -- What the answers of this crate mean in the definition, and what 64 bits keep of the number that was read.
 use Prim.Native.Nat.{ℕ, _+_, _%_, _^_}
 use lib.Dec.{ltb}
-use Rattle.reading.specs.Reading.{if_then_else_}
+use Rattle.reading.specs.Readers.{if_then_else_}
 use Rattle.reading.specs.Places.{At, gotAt, refusedAt, shortAt}
 use Rattle.input.specs.declared.Bits.{Bits}
 use Rattle.input.specs.declared.Bits.the-variants.{Value, Short}
 
-abbrev pub means : Bits → At ℕ
-means (Value v p) = gotAt v p
-means Short = shortAt
+abbrev pub bitsAt : Bits → At ℕ
+bitsAt (Value v p) = gotAt v p
+bitsAt Short = shortAt
 
 unfoldable pub mapAt : {A B : Type 0} → (A → B) → At A → At B
 mapAt f (gotAt a p) = gotAt (f a) p
@@ -23,5 +23,5 @@ low64 x = mapAt (λ v. v % 2 ^ 64) x
 unfoldable pub count : ℕ → ℕ
 count z = if ltb z (2 ^ 32) then z else 2 ^ 32 + z % 2 ^ 32
 
-unfoldable pub counted : At ℕ → At ℕ
-counted x = mapAt count x
+unfoldable pub countedZeros : At ℕ → At ℕ
+countedZeros x = mapAt count x

@@ -5,9 +5,9 @@ use reading::Place;
 use reading::is_inside;
 ghost use mathlib.Core.Path.{_≡_};
 ghost use Prim.Native.Nat.{_+_, _-_, _*_, _/_, _%_, _^_, _≤_, _<_};
-ghost use Rattle.reading.specs.Reading.{bits, zeros};
+ghost use Rattle.reading.specs.Readers.{bits, zeros};
 ghost use Rattle.reading.specs.Places.{position, placeOf, runAt};
-ghost use Rattle.input.specs.Answers.{means, low64, counted};
+ghost use Rattle.input.specs.Answers.{bitsAt, low64, countedZeros};
 
 // What was read and the place after it, or that the input ends first.
 pub enum Bits {
@@ -17,7 +17,7 @@ pub enum Bits {
 
 // The next n bits as a number; of more than 64 bits, the last 64. Each turn of the loop takes bits of one byte.
 pub fn read_bits(s: &[u8], at: Place, n: u32) -> Bits
-    ensures { λ r. ⌜ means r ≡ low64 (runAt (bits n) (now (s .entry)) at) ⌝ }
+    ensures { λ r. ⌜ bitsAt r ≡ low64 (runAt (bits n) (now (s .entry)) at) ⌝ }
 {
     if !is_inside(s, at) {
         return Bits::Short;
@@ -42,7 +42,7 @@ pub fn read_bits(s: &[u8], at: Place, n: u32) -> Bits
 // The number of zero bits before the next 1 bit, which is read too. From 2 ^ 32 zeros on it is the low 32 bits of their
 // number, with bit 32 set: a Rice quotient needs only the low bits, the wasted bits only that there are too many.
 pub fn read_unary(s: &[u8], at: Place) -> Bits
-    ensures { λ r. ⌜ means r ≡ counted (runAt zeros (now (s .entry)) at) ⌝ }
+    ensures { λ r. ⌜ bitsAt r ≡ countedZeros (runAt zeros (now (s .entry)) at) ⌝ }
 {
     if !is_inside(s, at) {
         return Bits::Short;

@@ -2,8 +2,8 @@
 // a channel and an index, then the three answers: the channel's range and its samples, the sample, and the pair.
 use crate::show::equals;
 use crate::show::mark;
-use crate::show::put;
-use crate::show::refused;
+use crate::show::show_number;
+use crate::show::show_refusal;
 use crate::show::text;
 use crate::show::value32;
 use crate::show::values32;
@@ -21,14 +21,14 @@ fn channel_at(s: &[i32], b: Block, c: usize) {
     match r {
         ChannelAt::Range(start, end) => {
             let there = &s[start..end];
-            put(b' ', start as u64);
+            show_number(b' ', start as u64);
             mark(b'.');
-            put(b'.', end as u64);
+            show_number(b'.', end as u64);
             mark(b',');
             values32(there);
         }
         ChannelAt::Refused(e) => {
-            refused(e);
+            show_refusal(e);
             mark(b',');
         }
     }
@@ -36,10 +36,10 @@ fn channel_at(s: &[i32], b: Block, c: usize) {
 
 fn at(s: &[i32], channels: usize, size: usize, c: usize, i: usize) {
     text(b"block");
-    put(b' ', channels as u64);
-    put(b'x', size as u64);
-    put(b' ', c as u64);
-    put(b' ', i as u64);
+    show_number(b' ', channels as u64);
+    show_number(b'x', size as u64);
+    show_number(b' ', c as u64);
+    show_number(b' ', i as u64);
     equals();
     let b = Block { channels, size };
     channel_at(s, b, c);
@@ -47,7 +47,7 @@ fn at(s: &[i32], channels: usize, size: usize, c: usize, i: usize) {
     let r = sample(s, b, c, i);
     match r {
         SampleAt::Value(x) => value32(x),
-        SampleAt::Refused(e) => refused(e),
+        SampleAt::Refused(e) => show_refusal(e),
     }
     mark(b',');
     let r = pair(s, b, i);
@@ -56,7 +56,7 @@ fn at(s: &[i32], channels: usize, size: usize, c: usize, i: usize) {
             value32(left);
             value32(right);
         }
-        PairAt::Refused(e) => refused(e),
+        PairAt::Refused(e) => show_refusal(e),
     }
     mark(b'\n');
 }

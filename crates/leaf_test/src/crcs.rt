@@ -1,8 +1,8 @@
 // Both check sums, in hexadecimal.
-use crate::show::bytes;
 use crate::show::equals;
 use crate::show::mark;
 use crate::show::part;
+use crate::show::show_bytes;
 use crate::show::text;
 use crc::crc8;
 use crc::crc16;
@@ -11,7 +11,7 @@ use libc::STDOUT_FILENO;
 fn both(data: &[u8], from: usize, to: usize) {
     let s = part(data, from, to);
     text(b"crc8 crc16 ");
-    bytes(s);
+    show_bytes(s);
     equals();
     mark(b' ');
     io::print_hex(STDOUT_FILENO, crc8(s) as u64, 2);

@@ -1,12 +1,12 @@
 // claxon's tests of bit reading (input.rs), with its data and its steps, and one of what claxon leaves undefined. The
 // data is on a line of its own. Then each step has a line: `b` for one bit, b17 for `read_bits` of 17 bits, `u` for
 // `read_unary`; the place that it starts at; the value and the place after it, or nothing where the input is short.
-use crate::show::bytes;
 use crate::show::equals;
 use crate::show::mark;
 use crate::show::part;
-use crate::show::place;
-use crate::show::put;
+use crate::show::show_bytes;
+use crate::show::show_number;
+use crate::show::show_place;
 use input::Bits;
 use input::read_bits;
 use input::read_unary;
@@ -22,7 +22,7 @@ fn read(s: &[u8], at: Place, n: u8) -> Bits {
         mark(n);
         return read_unary(s, at);
     }
-    put(b'b', n as u64);
+    show_number(b'b', n as u64);
     read_bits(s, at, n as u32)
 }
 
@@ -30,11 +30,11 @@ fn read(s: &[u8], at: Place, n: u8) -> Bits {
 fn step(s: &[u8], at: Place, n: u8) -> Place {
     let mut next = at;
     let r = read(s, at, n);
-    place(at);
+    show_place(at);
     equals();
     if let Bits::Value(v, p) = r {
-        put(b' ', v);
-        place(p);
+        show_number(b' ', v);
+        show_place(p);
         next = p;
     }
     mark(b'\n');
@@ -43,7 +43,7 @@ fn step(s: &[u8], at: Place, n: u8) -> Place {
 
 // Steps from a place, each from where the one before it ended.
 fn steps(s: &[u8], ns: &[u8], byte: usize, bit: usize) {
-    bytes(s);
+    show_bytes(s);
     mark(b'\n');
     let mut p = Place { byte, bit };
     let mut i = 0;

@@ -12,12 +12,12 @@ fn main() {
     crcs::sums();
     inputs::inputs();
     numbers::claxon();
-    numbers::boundaries();
+    numbers::number_boundaries();
     numbers::wraps();
     numbers::shifts();
     numbers::lessers();
     blocks::blocks();
-    subframes::channels();
-    subframes::boundaries();
+    subframes::subframe_cases();
+    subframes::partition_boundaries();
     subframes::refusals();
 }

@@ -1,10 +1,10 @@
 // The functions of `number` and `signed` on claxon's test data and at the boundaries of each.
-use crate::show::answer;
 use crate::show::equals;
 use crate::show::mark;
-use crate::show::put;
+use crate::show::show_answer;
+use crate::show::show_number;
+use crate::show::show_value;
 use crate::show::text;
-use crate::show::value;
 use crate::show::value32;
 use crate::show::wide;
 use number::lesser;
@@ -20,35 +20,35 @@ use signed::unfold;
 
 fn extend(v: u64, width: u32) {
     text(b"sign_extend");
-    put(b' ', v);
-    put(b' ', width as u64);
-    answer(sign_extend(v, width));
+    show_number(b' ', v);
+    show_number(b' ', width as u64);
+    show_answer(sign_extend(v, width));
 }
 
 // From the folded form, and back.
 fn rice(n: u32) {
     text(b"unfold fold");
-    put(b' ', n as u64);
+    show_number(b' ', n as u64);
     equals();
     let r = unfold(n);
     value32(r);
-    put(b' ', fold(wide(r)));
+    show_number(b' ', fold(wide(r)));
     mark(b'\n');
 }
 
 fn low(x: i64, width: u32) {
     text(b"low_bits");
-    value(x);
-    put(b' ', width as u64);
+    show_value(x);
+    show_number(b' ', width as u64);
     equals();
-    put(b' ', low_bits(x, width));
+    show_number(b' ', low_bits(x, width));
     mark(b'\n');
 }
 
 fn keep(x: i64) {
     text(b"low32");
-    value(x);
-    answer(wide(low32(x)));
+    show_value(x);
+    show_answer(wide(low32(x)));
 }
 
 fn sums(a: i32, b: i32) {
@@ -64,23 +64,23 @@ fn sums(a: i32, b: i32) {
 fn up(x: i32, k: u32) {
     text(b"shift_up");
     value32(x);
-    put(b' ', k as u64);
-    answer(wide(shift_up(x, k)));
+    show_number(b' ', k as u64);
+    show_answer(wide(shift_up(x, k)));
 }
 
 fn down(x: i64, k: u32) {
     text(b"shift_down");
-    value(x);
-    put(b' ', k as u64);
-    answer(shift_down(x, k));
+    show_value(x);
+    show_number(b' ', k as u64);
+    show_answer(shift_down(x, k));
 }
 
 fn less(a: usize, b: usize) {
     text(b"lesser");
-    put(b' ', a as u64);
-    put(b' ', b as u64);
+    show_number(b' ', a as u64);
+    show_number(b' ', b as u64);
     equals();
-    put(b' ', lesser(a, b) as u64);
+    show_number(b' ', lesser(a, b) as u64);
     mark(b'\n');
 }
 
@@ -117,7 +117,7 @@ pub fn claxon() {
 }
 
 // The least and the largest number of a width, and widths over 64, which count as 64.
-pub fn boundaries() {
+pub fn number_boundaries() {
     extend(18446744073709551615, 0);
     extend(0, 1);
     extend(1, 1);

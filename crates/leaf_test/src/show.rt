@@ -18,19 +18,19 @@ pub fn mark(c: u8) {
 }
 
 // A byte, then a number.
-pub fn put(before: u8, x: u64) {
+pub fn show_number(before: u8, x: u64) {
     mark(before);
     io::print_decimal(STDOUT_FILENO, x);
 }
 
 // A space, then a number with its sign.
-pub fn value(x: i64) {
+pub fn show_value(x: i64) {
     let bits = low_bits(x, 64);
     if x < 0 {
         mark(b' ');
-        put(b'-', wrapping_sub_u64(0, bits));
+        show_number(b'-', wrapping_sub_u64(0, bits));
     } else {
-        put(b' ', bits);
+        show_number(b' ', bits);
     }
 }
 
@@ -40,7 +40,7 @@ pub fn wide(x: i32) -> i64 {
 }
 
 pub fn value32(x: i32) {
-    value(wide(x));
+    show_value(wide(x));
 }
 
 pub fn values32(xs: &[i32]) {
@@ -56,7 +56,7 @@ fn byte(x: u8) {
 }
 
 // Bytes in hexadecimal.
-pub fn bytes(s: &[u8]) {
+pub fn show_bytes(s: &[u8]) {
     let mut i = 0;
     while i < s.len() {
         byte(s[i]);
@@ -65,9 +65,9 @@ pub fn bytes(s: &[u8]) {
 }
 
 // A place as byte:bit.
-pub fn place(p: Place) {
-    put(b' ', p.byte as u64);
-    put(b':', p.bit as u64);
+pub fn show_place(p: Place) {
+    show_number(b' ', p.byte as u64);
+    show_number(b':', p.bit as u64);
 }
 
 pub fn equals() {
@@ -76,15 +76,15 @@ pub fn equals() {
 }
 
 // The answer where it is a number, and the end of the line.
-pub fn answer(x: i64) {
+pub fn show_answer(x: i64) {
     equals();
-    value(x);
+    show_value(x);
     mark(b'\n');
 }
 
-pub fn refused(e: Refusal) {
+pub fn show_refusal(e: Refusal) {
     text(b" refused");
-    put(b' ', number_of(e) as u64);
+    show_number(b' ', number_of(e) as u64);
 }
 
 // A part of the data, or nothing where the range is out of bounds.

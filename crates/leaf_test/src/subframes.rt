@@ -1,13 +1,13 @@
 // Subframes through `decode`: claxon's tests of the predictors (subframe.rs) as subframes, each type, the boundaries of
 // the partitions, and each refusal. A line has the bytes, the width and the size, then the place after the subframe or
 // the refusal, and the samples. The samples start as 7, so zeros after a refusal were written by `decode`.
-use crate::show::bytes;
 use crate::show::equals;
 use crate::show::mark;
 use crate::show::part;
-use crate::show::place;
-use crate::show::put;
-use crate::show::refused;
+use crate::show::show_bytes;
+use crate::show::show_number;
+use crate::show::show_place;
+use crate::show::show_refusal;
 use crate::show::text;
 use crate::show::values32;
 use reading::Place;
@@ -17,8 +17,8 @@ use subframe::decode;
 fn decoded(d: Decoded, out: &[i32]) {
     equals();
     match d {
-        Decoded::Done(p) => place(p),
-        Decoded::Refused(e) => refused(e),
+        Decoded::Done(p) => show_place(p),
+        Decoded::Refused(e) => show_refusal(e),
     }
     mark(b',');
     values32(out);
@@ -27,9 +27,9 @@ fn decoded(d: Decoded, out: &[i32]) {
 
 fn line(s: &[u8], width: u32, out: &mut [i32]) {
     text(b"decode ");
-    bytes(s);
-    put(b' ', width as u64);
-    put(b' ', out.len() as u64);
+    show_bytes(s);
+    show_number(b' ', width as u64);
+    show_number(b' ', out.len() as u64);
     decoded(decode(s, Place { byte: 0, bit: 0 }, width, out), out);
 }
 
@@ -41,7 +41,7 @@ fn run(data: &[u8], from: usize, to: usize, width: u32, n: usize) {
     }
 }
 
-pub fn channels() {
+pub fn subframe_cases() {
     let s: &[u8] = b"\x16\xfd\x27\xfd\x2e\xfd\x65\x01\x0a\xbe\x48\xef\x48\x3f\x9b\x7d\x97\x62\
         \x14\x55\x75\x6b\x5a\x03\x04\xb8\x40\
         \x4c\xfc\xe4\xfd\xdd\xfe\xe3\xff\xe0\x00\xc7\x01\xbb\x02\x9e\xb4\xa0\x97\x38\xfd\xaf\x79\x83\xc8\
@@ -75,7 +75,7 @@ pub fn channels() {
 
 // 1024 partitions of 4 samples: a warm-up of 4 leaves the first one empty, one of 5 does not fit. 4095 samples cannot
 // be split into two partitions.
-pub fn boundaries() {
+pub fn partition_boundaries() {
     let mut data = [0xc3u8; 1034];
     data[0] = 0x18;
     data[1] = 0x00;

@@ -5,7 +5,7 @@ use lib.IntN.{ℤ, _+ℤ_, _-ℤ_}
 use mir.Syntax.{w32, w64}
 use mir.Val.{SFits, toZ, ofZ}
 use Rattle.rfc9639.proofs.Widths.{Fits, of-sfits, fits-add, fits-sub}
-use Rattle.rfc9639.proofs.Machine.{combined-fits, combined}
+use Rattle.rfc9639.proofs.MachineIntegers.{combined-fits, combined}
 
 -- an i32 as the code widens it
 abbrev widened32 : ℤ → ℤ

@@ -15,35 +15,35 @@ use Rattle.error.specs.Needs.{needsOf}
 use Rattle.error.proofs.Outcome.{number-tells, some-number}
 use Rattle.rfc9639.specs.Read.{Report, refusal, Outcome, read}
 use Rattle.demands.proofs.Demand3
-use Rattle.demands.proofs.Table.{Table, table}
+use Rattle.demands.proofs.BufferTable.{Table, table}
 use Rattle.frame.specs.declared.Accepted.{Accepted}
-use Rattle.frame.specs.declared.Answer.{Answer}
+use Rattle.frame.specs.declared.ReadAnswer.{ReadAnswer}
 use Rattle.frame.specs.Reads.{reportOf, Reads}
 use Rattle.frame.proofs.Outcome.{report-tells}
 use Rattle.promises.proofs.Outcomes.{ReadFrame, reads}
 
 -- What an answer asks of the caller: a refusal, what `needs` of crate `error` says; a frame, nothing. Only what an
 -- answer asks for, bytes or room, can change it.
-abbrev pub asks : Answer → Need
-asks (Answer.Frame f) = Final
-asks (Answer.Refused e) = needsOf e
+abbrev pub asks : ReadAnswer → Need
+asks (ReadAnswer.Frame f) = Final
+asks (ReadAnswer.Refused e) = needsOf e
 
 -- ---- answers and numbers
 
 -- an answer with a refusal's number is that refusal
-named : (r : Answer) (x : Refusal) → reportOf r .number ≡ numberOf x → r ≡ Answer.Refused x
+named : (r : ReadAnswer) (x : Refusal) → reportOf r .number ≡ numberOf x → r ≡ ReadAnswer.Refused x
 unfolding refusal
-named (Answer.Frame f) x e = absurd (omega (arith, some-number x))
-named (Answer.Refused y) x e = ap Answer.Refused (number-tells y x e)
+named (ReadAnswer.Frame f) x e = absurd (omega (arith, some-number x))
+named (ReadAnswer.Refused y) x e = ap ReadAnswer.Refused (number-tells y x e)
 
 -- two answers of the code to equal outcomes of the definition are equal
-equal : {x y : Outcome} {r r′ : Answer} {left left′ : List ℤ} → x ≡ y → Reads x r left → Reads y r′ left′ → (r ≡ r′) × (left ≡ left′)
+equal : {x y : Outcome} {r r′ : ReadAnswer} {left left′ : List ℤ} → x ≡ y → Reads x r left → Reads y r′ left′ → (r ≡ r′) × (left ≡ left′)
 equal {r = r} {r′ = r′} e p q = (
   report-tells r r′ (p .report ∙ ap (λ (o : Outcome). o .report) e ∙ sym (q .report)),
   p .samples ∙ ap (λ (o : Outcome). o .buffer) e ∙ sym (q .samples),
 )
 
-module _ {s : List ℕ} {b : List ℤ} {r : Answer} {left : List ℤ} (o : ReadFrame s b r left) where
+module _ {s : List ℕ} {b : List ℤ} {r : ReadAnswer} {left : List ℤ} (o : ReadFrame s b r left) where
   number-is : read s b .report .number ≡ reportOf r .number
   number-is = sym (ap (λ (q : Report). q .number) (reads o .report))
 
@@ -53,12 +53,12 @@ module _ {s : List ℕ} {b : List ℤ} {r : Answer} {left : List ℤ} (o : ReadF
 
   -- ---- 1. More bytes never change an answer that does not wait for bytes: answer and buffer stay the same.
 
-  pub bytes-change-nothing : asks r ≢ Wait → (t : List ℕ) {r′ : Answer} {left′ : List ℤ} → ReadFrame (s ++ t) b r′ left′ → (r ≡ r′) × (left ≡ left′)
+  pub bytes-change-nothing : asks r ≢ Wait → (t : List ℕ) {r′ : ReadAnswer} {left′ : List ℤ} → ReadFrame (s ++ t) b r′ left′ → (r ≡ r′) × (left ≡ left′)
   bytes-change-nothing known t p = equal (sym (Demand3.never-unsaid s t b (λ e. known (asks-by NothingLeft e)) (λ e. known (asks-by CutShort e)))) (reads o) (reads p)
 
   -- ---- 2. More room never changes an answer that does not ask for room; the added room is untouched.
 
-  pub room-changes-nothing : asks r ≢ Room → (more : List ℤ) {r′ : Answer} {left′ : List ℤ} → ReadFrame s (b ++ more) r′ left′ → (r ≡ r′) × (left ++ more ≡ left′)
+  pub room-changes-nothing : asks r ≢ Room → (more : List ℤ) {r′ : ReadAnswer} {left′ : List ℤ} → ReadFrame s (b ++ more) r′ left′ → (r ≡ r′) × (left ++ more ≡ left′)
   room-changes-nothing roomy more {r′} p =
       let same = Demand3.more-room s b more (λ e. roomy (asks-by NoRoom e)) in (
         report-tells r r′ (reads o .report ∙ sym (ap (λ (x : Outcome). x .report) same) ∙ sym (reads p .report)),
@@ -67,9 +67,9 @@ module _ {s : List ℕ} {b : List ℤ} {r : Answer} {left : List ℤ} (o : ReadF
 
   -- ---- 3. A frame: its consumed bytes are there, they alone give its answer and buffer, and fewer are cut short.
 
-  module _ {f : Accepted} (is : r ≡ Answer.Frame f) where
+  module _ {f : Accepted} (is : r ≡ ReadAnswer.Frame f) where
     zero-number : read s b .report .number ≡ 0
-    zero-number = number-is ∙ ap (λ (q : Answer). reportOf q .number) is
+    zero-number = number-is ∙ ap (λ (q : ReadAnswer). reportOf q .number) is
 
     consumed-is : read s b .report .consumed ≡ f .consumed
     consumed-is = sym (ap (λ (q : Report). q .consumed) (sym (ap reportOf is) ∙ reads o .report))
@@ -77,11 +77,11 @@ module _ {s : List ℕ} {b : List ℤ} {r : Answer} {left : List ℤ} (o : ReadF
     pub counted-there : f .consumed ≤ length s
     counted-there = omega (arith, consumed-is, Demand3.counted-there s b zero-number)
 
-    pub counted-suffice : {r′ : Answer} {left′ : List ℤ} → ReadFrame (take (f .consumed) s) b r′ left′ → (r ≡ r′) × (left ≡ left′)
+    pub counted-suffice : {r′ : ReadAnswer} {left′ : List ℤ} → ReadFrame (take (f .consumed) s) b r′ left′ → (r ≡ r′) × (left ≡ left′)
     counted-suffice p =
         equal (sym (ap (λ n. read (take n s) b) (sym consumed-is) ∙ Demand3.counted-suffice s b zero-number)) (reads o) (reads p)
 
-    pub fewer-cut-short : (m : ℕ) → 0 < m → m < f .consumed → {r′ : Answer} {left′ : List ℤ} → ReadFrame (take m s) b r′ left′ → r′ ≡ Answer.Refused CutShort
+    pub fewer-cut-short : (m : ℕ) → 0 < m → m < f .consumed → {r′ : ReadAnswer} {left′ : List ℤ} → ReadFrame (take m s) b r′ left′ → r′ ≡ ReadAnswer.Refused CutShort
     fewer-cut-short m some less {r′} p =
         named r′ CutShort
         (ap (λ (q : Report). q .number) (reads p .report)
@@ -89,8 +89,8 @@ module _ {s : List ℕ} {b : List ℤ} {r : Answer} {left : List ℤ} (o : ReadF
 
   -- ---- 4. What the buffer held before does not affect the answer.
 
-  pub unswayed : {b′ : List ℤ} → length b ≡ length b′ → {r′ : Answer} {left′ : List ℤ} → ReadFrame s b′ r′ left′ → r ≡ r′
-  unswayed {b′} e {r′} p = report-tells r r′ (reads o .report ∙ Demand3.unswayed-report s b b′ e ∙ sym (reads p .report))
+  pub answer-ignores-buffer : {b′ : List ℤ} → length b ≡ length b′ → {r′ : ReadAnswer} {left′ : List ℤ} → ReadFrame s b′ r′ left′ → r ≡ r′
+  answer-ignores-buffer {b′} e {r′} p = report-tells r r′ (reads o .report ∙ Demand3.report-ignores-buffer s b b′ e ∙ sym (reads p .report))
 
   -- ---- 5. Document 01's table: what the samples hold afterwards.
 
@@ -98,15 +98,15 @@ module _ {s : List ℕ} {b : List ℤ} {r : Answer} {left : List ℤ} (o : ReadF
   left-by-table = (reads o .samples, table s b)
 
 -- the empty input is refused as `NothingLeft`, and the buffer stays
-pub nothing-left : {b : List ℤ} {r : Answer} {left : List ℤ} → ReadFrame [] b r left → (r ≡ Answer.Refused NothingLeft) × (left ≡ b)
+pub nothing-left : {b : List ℤ} {r : ReadAnswer} {left : List ℤ} → ReadFrame [] b r left → (r ≡ ReadAnswer.Refused NothingLeft) × (left ≡ b)
 nothing-left {b} {r} o =
     let one = Demand3.nothing-left b in
     (named r NothingLeft (sym (number-is o) ∙ one), reads o .samples ∙ table [] b .row-1 one)
 
 -- ---- A final answer stays, whatever bytes follow and however much room is added.
 
-pub final-stays : {s : List ℕ} {b : List ℤ} {r : Answer} {left : List ℤ} → ReadFrame s b r left → asks r ≡ Final
-    → (t : List ℕ) (more : List ℤ) {r′ : Answer} {left′ : List ℤ} → ReadFrame (s ++ t) (b ++ more) r′ left′ → (r ≡ r′) × (left ++ more ≡ left′)
+pub final-stays : {s : List ℕ} {b : List ℤ} {r : ReadAnswer} {left : List ℤ} → ReadFrame s b r left → asks r ≡ Final
+    → (t : List ℕ) (more : List ℤ) {r′ : ReadAnswer} {left′ : List ℤ} → ReadFrame (s ++ t) (b ++ more) r′ left′ → (r ≡ r′) × (left ++ more ≡ left′)
 final-stays {s} {b} {r} {left} o final t more {r′} p =
     let longer = Demand3.never-unsaid s t b (λ e. apart (sym final ∙ asks-by o NothingLeft e)) (λ e. apart (sym final ∙ asks-by o CutShort e)) in
     let roomier = Demand3.more-room (s ++ t) b more (λ e. roomless (sym final ∙ asks-by o NoRoom (sym (ap (λ (x : Outcome). x .report .number) longer) ∙ e))) in (

@@ -9,12 +9,12 @@ use denote.Triple.Clauses.{atExit}
 use Rattle.rfc9639.specs.declared.FrameSetting.{FrameSetting}
 use Rattle.rfc9639.specs.Read.{read}
 use Rattle.rfc9639.specs.Write.{write}
-use Rattle.frame.specs.declared.Answer.{Answer}
+use Rattle.frame.specs.declared.ReadAnswer.{ReadAnswer}
 use Rattle.frame.specs.Reads.{Reads}
 use Rattle.frame.proofs.read_frame as read_frame
-use Rattle.writer.specs.declared.Answer as written
-use Rattle.writer.specs.Outcomes.{outcome}
-use Rattle.writer.proofs.write_frame as write_frame
+use Rattle.frame_writer.specs.declared.ReadAnswer as written
+use Rattle.frame_writer.specs.Outcomes.{outcome}
+use Rattle.frame_writer.proofs.write_frame as write_frame
 
 -- the settings among the arguments of `write_frame`
 abbrev given : (κs : Lfts (write_frame.ended .signature .lifetimes)) → Args (write_frame.ended .signature) κs → FrameSetting
@@ -31,19 +31,19 @@ given κs args = record {
 
 -- an outcome of `read_frame(s, samples)`, where the samples held b: it answers r, and the samples hold `left`
 -- afterwards
-pub record ReadFrame (s : List ℕ) (b : List ℤ) (r : Answer) (left : List ℤ) : Type 0 where
+pub record ReadFrame (s : List ℕ) (b : List ℤ) (r : ReadAnswer) (left : List ℤ) : Type 0 where
   pub κs : Lfts (read_frame.ended .signature .lifetimes)
   pub args : Args (read_frame.ended .signature) κs
   pub bytes : args .0 .now ≡ s
   pub lent : args .1 .0 .now ≡ b
   pub meets : read_frame.Reads.Learnt κs args r (atExit read_frame.ended κs args (tt, (left, tt)))
 
-pub reads : {s : List ℕ} {b : List ℤ} {r : Answer} {left : List ℤ} → ReadFrame s b r left → Reads (read s b) r left
+pub reads : {s : List ℕ} {b : List ℤ} {r : ReadAnswer} {left : List ℤ} → ReadFrame s b r left → Reads (read s b) r left
 reads {s} {b} {r} {left} o =
     subst (λ (x : List ℤ). Reads (read s x) r left) (o .lent) (subst (λ (x : List ℕ). Reads (read x (o .args .1 .0 .now)) r left) (o .bytes) (o .meets))
 
 -- an outcome of `write_frame(xs, .. settings .., out)`: it answers r, and the output holds `left` afterwards
-pub record WriteFrame (set : FrameSetting) (xs : List ℤ) (out : List ℕ) (r : written.Answer) (left : List ℕ) : Type 0 where
+pub record WriteFrame (set : FrameSetting) (xs : List ℤ) (out : List ℕ) (r : written.ReadAnswer) (left : List ℕ) : Type 0 where
   pub κs : Lfts (write_frame.ended .signature .lifetimes)
   pub args : Args (write_frame.ended .signature) κs
   pub samples : args .0 .now ≡ xs
@@ -51,7 +51,7 @@ pub record WriteFrame (set : FrameSetting) (xs : List ℤ) (out : List ℕ) (r :
   pub lent : args .1 .1 .1 .1 .1 .1 .0 .now ≡ out
   pub meets : write_frame.Reads.Learnt κs args r (atExit write_frame.ended κs args (tt, (tt, (tt, (tt, (tt, (tt, (left, tt))))))))
 
-pub writes : {set : FrameSetting} {xs : List ℤ} {out : List ℕ} {r : written.Answer} {left : List ℕ} → WriteFrame set xs out r left → outcome r left ≡ write set xs out
+pub writes : {set : FrameSetting} {xs : List ℤ} {out : List ℕ} {r : written.ReadAnswer} {left : List ℕ} → WriteFrame set xs out r left → outcome r left ≡ write set xs out
 writes {set} {xs} {out} {r} {left} o =
     let lent = o .args .1 .1 .1 .1 .1 .1 .0 .now in
     subst (λ (x : List ℕ). outcome r left ≡ write set xs x) (o .lent)

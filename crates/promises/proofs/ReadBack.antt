@@ -12,13 +12,13 @@ use Rattle.rfc9639.specs.declared.FrameSetting.{FrameSetting}
 use Rattle.rfc9639.specs.HeaderCodes.{assignment, channelCount}
 use Rattle.rfc9639.specs.Read.{Outcome, read}
 use Rattle.rfc9639.specs.Write.{frameBytes, frameBound, allowed, allFit, Written, unwritten, write}
-use Rattle.rfc9639.proofs.Bound.{within-bound}
-use Rattle.readback.specs.First.{firstOf}
+use Rattle.rfc9639.proofs.LengthBound.{within-bound}
+use Rattle.readback.specs.FirstSample.{firstOf}
 use Rattle.readback.proofs.ReadBack.{writtenReport, read-back}
-use Rattle.frame.specs.declared.Answer.{Answer}
+use Rattle.frame.specs.declared.ReadAnswer.{ReadAnswer}
 use Rattle.frame.proofs.Outcome.{report-tells}
-use Rattle.writer.specs.declared.Answer as written
-use Rattle.writer.specs.Outcomes.{outcome}
+use Rattle.frame_writer.specs.declared.ReadAnswer as written
+use Rattle.frame_writer.specs.Outcomes.{outcome}
 use Rattle.promises.proofs.Outcomes.{ReadFrame, reads, WriteFrame, writes}
 
 -- what a written frame says about its settings, samples and output
@@ -28,7 +28,7 @@ record Wrote (set : FrameSetting) (xs : List ℤ) (out : List ℕ) (n : ℕ) (le
   long : n ≡ length (frameBytes set xs)
   laid : left ≡ frameBytes set xs ++ drop (length (frameBytes set xs)) out
 
-wrote : (set : FrameSetting) (xs : List ℤ) (out : List ℕ) (n : ℕ) (left : List ℕ) → outcome (written.Answer.Frame n) left ≡ write set xs out → Wrote set xs out n left
+wrote : (set : FrameSetting) (xs : List ℤ) (out : List ℕ) (n : ℕ) (left : List ℕ) → outcome (written.ReadAnswer.Frame n) left ≡ write set xs out → Wrote set xs out n left
 unfolding write unwritten
 wrote set xs out n left e = go (allowed set (length xs)) refl (allFit (set .bits) xs) refl (leb (length (frameBytes set xs)) (length out)) e
   where
@@ -36,7 +36,7 @@ wrote set xs out n left e = go (allowed set (length xs)) refl (allFit (set .bits
     at-length b = cond b (record { number = 0; length = length (frameBytes set xs); output = frameBytes set xs ++ drop (length (frameBytes set xs)) out }) (unwritten 13 out)
 
     go : (a : Bool) → allowed set (length xs) ≡ a → (f : Bool) → allFit (set .bits) xs ≡ f → (l : Bool)
-        → outcome (written.Answer.Frame n) left ≡ cond a (cond f (at-length l) (unwritten 12 out)) (unwritten 11 out) → Wrote set xs out n left
+        → outcome (written.ReadAnswer.Frame n) left ≡ cond a (cond f (at-length l) (unwritten 12 out)) (unwritten 11 out) → Wrote set xs out n left
     go true a true f true e = record {
       ok = a;
       fit = f;
@@ -47,7 +47,7 @@ wrote set xs out n left e = go (allowed set (length xs)) refl (allFit (set .bits
     go true a false f l e = absurd (let z = ap (λ (w : Written). w .number) e in omega arith)
     go false a f g l e = absurd (let z = ap (λ (w : Written). w .number) e in omega arith)
 
-module _ {set : FrameSetting} {xs : List ℤ} {out : List ℕ} {n : ℕ} {left : List ℕ} (o : WriteFrame set xs out (written.Answer.Frame n) left) where
+module _ {set : FrameSetting} {xs : List ℤ} {out : List ℕ} {n : ℕ} {left : List ℕ} (o : WriteFrame set xs out (written.ReadAnswer.Frame n) left) where
   abbrev w : Wrote set xs out n left
   w = wrote set xs out n left (writes o)
 
@@ -60,8 +60,8 @@ module _ {set : FrameSetting} {xs : List ℤ} {out : List ℕ} {n : ℕ} {left :
   written-within-bound = omega (arith, w .long, within-bound set xs)
 
   -- whatever bytes follow the frame, and in any buffer with room for the samples
-  pub written-reads-back : (rest : List ℕ) (b : List ℤ) → length xs ≤ length b → {r : Answer} {kept : List ℤ} → ReadFrame (take n left ++ rest) b r kept
-      → (r ≡ Answer.Frame (record { consumed = n; first = firstOf set; channels = channelCount (assignment (set .channels)); bits = set .bits; size = set .size }))
+  pub written-reads-back : (rest : List ℕ) (b : List ℤ) → length xs ≤ length b → {r : ReadAnswer} {kept : List ℤ} → ReadFrame (take n left ++ rest) b r kept
+      → (r ≡ ReadAnswer.Frame (record { consumed = n; first = firstOf set; channels = channelCount (assignment (set .channels)); bits = set .bits; size = set .size }))
       × (kept ≡ xs ++ drop (length xs) b)
   written-reads-back rest b room {r} p =
       let back =

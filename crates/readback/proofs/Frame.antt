@@ -7,10 +7,10 @@ use borrow.Author.Tests.{lt-ltb, le-leb, eq-eqb}
 use lib.IntN.{ℤ}
 use lib.ListN.{length, replicate}
 use lib.Pow.{pow-pos}
-use Rattle.reading.specs.Reading.{each}
-use Rattle.reading.specs.Spelling.{bitsOf}
-use Rattle.reading.proofs.Holding.{Every}
-use Rattle.reading.proofs.Spelling.{bitsOf-zero}
+use Rattle.reading.specs.Readers.{each}
+use Rattle.reading.specs.NumbersAsBits.{bitsOf}
+use Rattle.reading.proofs.Postconditions.{Every}
+use Rattle.reading.proofs.NumbersAsBits.{bitsOf-zero}
 use Rattle.rfc9639.specs.declared.FrameSetting.{FrameSetting}
 use Rattle.rfc9639.specs.declared.Lane.{Lane}
 use Rattle.rfc9639.specs.CheckSums.{crc16}
@@ -18,27 +18,27 @@ use Rattle.rfc9639.specs.HeaderCodes.{assignment}
 use Rattle.rfc9639.specs.Header.{sampleCount}
 use Rattle.rfc9639.specs.Subframe.{subframe}
 use Rattle.rfc9639.specs.Frame.{opening, widths, padding, footer, body, frame}
-use Rattle.rfc9639.specs.Write.{headerBits, lanes, laneWidth, stored, laneBits, subframesBits, padded, footed, frameBits}
+use Rattle.rfc9639.specs.Write.{headerBits, lanes, laneWidth, stored, laneBits, subframesBits, paddedToByte, footed, frameBits}
 use Rattle.rfc9639.proofs.Widths.{Fits}
 use Rattle.rfc9639.proofs.CheckSums.{crc16-below}
-use Rattle.rfc9639.proofs.Listing.{width-within, widths-lanes}
-use Rattle.readback.proofs.Spells.{Spells, spells-as, spells-value, spells-by, spells-bits, spells-passed, spells-done, spells-bind, spells-then, spells-last, spells-require, spells-checked, spells-each}
-use Rattle.rfc9639.proofs.Allowed.{Allowed}
+use Rattle.rfc9639.proofs.Lists.{width-within, widths-lanes}
+use Rattle.readback.proofs.SpelledValues.{Spells, spells-as, spells-value, spells-by, spells-bits, spells-passed, spells-done, spells-bind, spells-then, spells-last, spells-require, spells-checked, spells-each}
+use Rattle.rfc9639.proofs.AllowedSettings.{Allowed}
 use Rattle.readback.proofs.Header.{headerOf, spells-header}
 use Rattle.readback.proofs.Subframe.{spells-subframe}
-use Rattle.readback.proofs.Lanes.{Held, lanes-held, joined-lanes}
+use Rattle.readback.proofs.Lanes.{Held, lanes-held, leftAndRight-lanes}
 
 -- what follows the subframes: the padding and the CRC-16
 abbrev footerBits : List ℕ → List ℕ
-footerBits before = replicate (padding (length before)) 0 ++ bitsOf 16 (crc16 (padded before))
+footerBits before = replicate (padding (length before)) 0 ++ bitsOf 16 (crc16 (paddedToByte before))
 
 spells-footer : {before : List ℕ} → Spells before footer (footerBits before) tt
-unfolding footer padded
+unfolding footer paddedToByte
 spells-footer {before} =
     spells-then _ spells-passed
     (spells-bind _ (spells-as (bitsOf-zero (padding (length before))) (spells-bits (padding (length before)) {v = 0} (pow-pos (padding (length before)))))
     (spells-then _ spells-passed
-    (spells-last _ (spells-bits 16 (crc16-below (padded before))) (spells-require 10 (eq-eqb (crc16 (padded before)) (crc16 (padded before)) refl)))))
+    (spells-last _ (spells-bits 16 (crc16-below (paddedToByte before))) (spells-require 10 (eq-eqb (crc16 (paddedToByte before)) (crc16 (paddedToByte before)) refl)))))
 
 module _ (set : FrameSetting) (xs : List ℤ) (ok : Allowed set (length xs)) (fit : Every (Fits (set .bits)) xs) where
   some : 1 ≤ set .bits
@@ -69,7 +69,7 @@ module _ (set : FrameSetting) (xs : List ℤ) (ok : Allowed set (length xs)) (fi
   unfolding body
   spells-body =
       spells-bind _ spells-subframes
-      (spells-last _ spells-footer (spells-value (joined-lanes (set .size) xs some (ok .depth .most) fit (assignment (set .channels)) (ok .samples)) spells-done))
+      (spells-last _ spells-footer (spells-value (leftAndRight-lanes (set .size) xs some (ok .depth .most) fit (assignment (set .channels)) (ok .samples)) spells-done))
 
   spells-opening : (room : ℕ) → length xs ≤ room → Spells [] (opening (record { room = room })) (headerBits set) (headerOf set)
   unfolding opening sampleCount
@@ -78,5 +78,5 @@ module _ (set : FrameSetting) (xs : List ℤ) (ok : Allowed set (length xs)) (fi
       (spells-checked 8 _ (lt-ltb 0 (set .bits) some) (spells-checked 7 _ (le-leb _ room (omega (arith, ok .samples))) spells-done))
 
   pub spells-frame : (room : ℕ) → length xs ≤ room → Spells [] (frame (record { room = room })) (frameBits set xs) (record { header = headerOf set; samples = xs })
-  unfolding frame frameBits footed padded
+  unfolding frame frameBits footed paddedToByte
   spells-frame room h = spells-as (simp append-assoc) (spells-bind _ (spells-opening room h) (spells-last _ spells-body spells-done))

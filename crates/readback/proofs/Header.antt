@@ -6,22 +6,22 @@ use mathlib.Core.Bool.{Bool, true, false, cond, _||_}
 use mathlib.Core.List.{List, [], _++_, append-assoc}
 use borrow.Author.Tests.{lt-ltb, le-leb, leb-true, eq-eqb, eqb-true}
 use lib.Dec.{leb, eqb}
-use Rattle.reading.specs.Reading.{done}
+use Rattle.reading.specs.Readers.{done}
 use Rattle.reading.specs.Bytes.{bitsOfBytes}
-use Rattle.reading.specs.Spelling.{bitsOf}
-use Rattle.reading.proofs.Spelling.{bitsOf-split, bitsOf-mod}
+use Rattle.reading.specs.NumbersAsBits.{bitsOf}
+use Rattle.reading.proofs.NumbersAsBits.{bitsOf-split, bitsOf-mod}
 use Rattle.rfc9639.specs.declared.Codes.{Codes}
 use Rattle.rfc9639.specs.declared.FrameHeader.{FrameHeader}
 use Rattle.rfc9639.specs.declared.FrameSetting.{FrameSetting}
 use Rattle.rfc9639.specs.CheckSums.{crc8}
 use Rattle.rfc9639.specs.HeaderCodes.{assignment, blockSize, rateBits, sizeCode, sizeBits, bitsCode}
-use Rattle.rfc9639.specs.Header.{timeOf, sync, sizeAndRate, depthAndZero, channelsAndBits, codes, blockTime, headerSum, headerBehind, header}
+use Rattle.rfc9639.specs.Header.{timeOf, sync, sizeAndRate, depthAndZero, channelsAndBits, codes, blockTime, headerSum, headerAfterCodes, header}
 use Rattle.rfc9639.specs.Write.{numberBytes, codeBits, fieldBits, headerBits, numberLimit}
 use Rattle.rfc9639.proofs.CheckSums.{crc8-below}
-use Rattle.reading.proofs.Tests.{by-test}
-use Rattle.readback.proofs.Spells.{Spells, spells-as, spells-value, spells-by, spells-bits, spells-passed, spells-done, spells-bind, spells-then, spells-last, spells-checked, spells-require}
+use Rattle.reading.proofs.TestChains.{by-test}
+use Rattle.readback.proofs.SpelledValues.{Spells, spells-as, spells-value, spells-by, spells-bits, spells-passed, spells-done, spells-bind, spells-then, spells-last, spells-checked, spells-require}
 use Rattle.readback.proofs.Number.{spells-number}
-use Rattle.rfc9639.proofs.Allowed.{Depth, Allowed}
+use Rattle.rfc9639.proofs.AllowedSettings.{Depth, Allowed}
 
 -- ---- the first four bytes
 
@@ -54,23 +54,23 @@ spells-channelsAndBits c h d =
 
 -- ---- the block size
 
-abbrev bitsBehind : ℕ → ℕ → List ℕ
-bitsBehind code n = cond (eqb code 6) (bitsOf 8 (n - 1)) (cond (eqb code 7) (bitsOf 16 (n - 1)) [])
+abbrev uncommonSizeBits : ℕ → ℕ → List ℕ
+uncommonSizeBits code n = cond (eqb code 6) (bitsOf 8 (n - 1)) (cond (eqb code 7) (bitsOf 16 (n - 1)) [])
 
-record Sized (n code : ℕ) : Type 0 where
+record SizeCoded (n code : ℕ) : Type 0 where
   some : 0 < code
   most : code < 16
-  read : {before : List ℕ} → Spells before (blockSize code) (bitsBehind code n) n
+  read : {before : List ℕ} → Spells before (blockSize code) (uncommonSizeBits code n) n
 
 -- a block size that has a code of its own
-own : (m code : ℕ) {n : ℕ} → blockSize code ≡ done m → bitsBehind code m ≡ [] → 0 < code → code < 16 → eqb n m ≡ true → Sized n code
+own : (m code : ℕ) {n : ℕ} → blockSize code ≡ done m → uncommonSizeBits code m ≡ [] → 0 < code → code < 16 → eqb n m ≡ true → SizeCoded n code
 own m code {n} b e some most t =
-    subst (λ k. Sized k code) (sym (eqb-true n m t))
+    subst (λ k. SizeCoded k code) (sym (eqb-true n m t))
     (record { some = some; most = most; read = spells-as (sym e) (spells-by b spells-done) })
 
-sized : (n : ℕ) → 0 < n → n ≤ 65535 → Sized n (sizeCode n)
+size-coded : (n : ℕ) → 0 < n → n ≤ 65535 → SizeCoded n (sizeCode n)
 unfolding sizeCode blockSize
-sized n some most =
+size-coded n some most =
     test (eqb n 192) 1 _ (own 192 1 refl refl (omega arith) (omega arith))
     (λ _. test (eqb n 576) 2 _ (own 576 2 refl refl (omega arith) (omega arith))
     (λ _. test (eqb n 1152) 3 _ (own 1152 3 refl refl (omega arith) (omega arith))
@@ -86,17 +86,17 @@ sized n some most =
     (λ _. test (eqb n 32768) 15 _ (own 32768 15 refl refl (omega arith) (omega arith))
     (λ _. test (leb n 256) 6 7 (λ e. in8 (leb-true n 256 e)) (λ _. in16))))))))))))))
   where
-    test : (b : Bool) (x y : ℕ) → (b ≡ true → Sized n x) → (b ≡ false → Sized n y) → Sized n (cond b x y)
-    test = by-test (Sized n)
+    test : (b : Bool) (x y : ℕ) → (b ≡ true → SizeCoded n x) → (b ≡ false → SizeCoded n y) → SizeCoded n (cond b x y)
+    test = by-test (SizeCoded n)
 
-    in8 : n ≤ 256 → Sized n 6
+    in8 : n ≤ 256 → SizeCoded n 6
     in8 h = record {
       some = omega arith;
       most = omega arith;
       read = spells-last _ (spells-bits 8 (omega arith)) (spells-value (omega arith) spells-done);
     }
 
-    in16 : Sized n 7
+    in16 : SizeCoded n 7
     in16 = record {
       some = omega arith;
       most = omega arith;
@@ -143,8 +143,8 @@ module _ (set : FrameSetting) {count : ℕ} (ok : Allowed set count) where
     bits = set .bits;
   }
 
-  size-is : Sized (set .size) (sizeCode (set .size))
-  size-is = sized (set .size) (ok .some) (ok .most)
+  size-is : SizeCoded (set .size) (sizeCode (set .size))
+  size-is = size-coded (set .size) (ok .some) (ok .most)
 
   spells-codes : Spells [] codes (codeBits set) codesOf
   unfolding codes codeBits codesOf
@@ -154,9 +154,9 @@ module _ (set : FrameSetting) {count : ℕ} (ok : Allowed set count) where
       (spells-bind _ (spells-sizeAndRate (sizeCode (set .size)) (size-is .some) (size-is .most))
       (spells-last _ (spells-channelsAndBits (set .channels) (ok .channels) (ok .depth)) spells-done)))
 
-  spells-behind : Spells (codeBits set) (headerBehind codesOf) (bitsOfBytes (numberBytes (set .number)) ++ sizeBits (set .size) ++ bitsOf 8 (crc8 (fieldBits set))) (headerOf set)
-  unfolding headerBehind fieldBits sizeBits codesOf rateBits bitsOf
-  spells-behind =
+  spells-after-codes : Spells (codeBits set) (headerAfterCodes codesOf) (bitsOfBytes (numberBytes (set .number)) ++ sizeBits (set .size) ++ bitsOf 8 (crc8 (fieldBits set))) (headerOf set)
+  unfolding headerAfterCodes fieldBits sizeBits codesOf rateBits bitsOf
+  spells-after-codes =
       spells-as (sym (append-assoc (bitsOfBytes (numberBytes (set .number))) (sizeBits (set .size)) (bitsOf 8 (crc8 (fieldBits set)))))
       (spells-bind _ (spells-time (set .blocking) (set .number) (ok .blocking) (ok .number))
       (spells-bind _ (size-is .read)
@@ -165,4 +165,4 @@ module _ (set : FrameSetting) {count : ℕ} (ok : Allowed set count) where
 
   pub spells-header : Spells [] header (headerBits set) (headerOf set)
   unfolding header headerBits fieldBits
-  spells-header = spells-as (simp append-assoc) (spells-bind _ spells-codes spells-behind)
+  spells-header = spells-as (simp append-assoc) (spells-bind _ spells-codes spells-after-codes)

@@ -8,21 +8,21 @@ use lib.Dec.{eqb}
 use lib.IntN.{ℤ}
 use lib.ListN.{length, take, drop, take-append-drop, drop-of-length-le}
 use lib.Seq.{drop-drop}
-use Rattle.reading.proofs.Holding.{Every, every-take, every-drop, every-map}
+use Rattle.reading.proofs.Postconditions.{Every, every-take, every-drop, every-map}
 use Rattle.rfc9639.specs.declared.ChannelAssignment.{ChannelAssignment}
 use Rattle.rfc9639.specs.declared.ChannelAssignment.the-variants.{Independent, LeftSide, SideRight, MidSide}
 use Rattle.rfc9639.specs.declared.Lane.{Lane}
 use Rattle.rfc9639.specs.declared.Lane.the-variants.{Channel, Mid, Side}
 use Rattle.rfc9639.specs.HeaderCodes.{channelCount}
-use Rattle.rfc9639.specs.Stereo.{joined}
-use Rattle.rfc9639.specs.Coding.{counting}
-use Rattle.rfc9639.specs.Write.{laneOf, lanes, laneWidth, midOf, sideOf, channel, stored}
+use Rattle.rfc9639.specs.Stereo.{leftAndRight}
+use Rattle.rfc9639.specs.SubframeCoding.{numbersFrom}
+use Rattle.rfc9639.specs.Write.{laneOf, lanes, laneWidth, midOf, sideOf, channelSamples, stored}
 use Rattle.rfc9639.proofs.Widths.{Fits}
-use Rattle.rfc9639.proofs.Lengths.{length-channel}
-use Rattle.rfc9639.proofs.Listing.{counted}
-use Rattle.reading.proofs.Tests.{by-test}
+use Rattle.rfc9639.proofs.Lengths.{length-channelSamples}
+use Rattle.rfc9639.proofs.Lists.{every-numbersFrom}
+use Rattle.reading.proofs.TestChains.{by-test}
 use Rattle.readback.proofs.Stereo.{side-fits, mid-fits}
-use Rattle.readback.proofs.Pairs.{Pair, length-pairs, every-pair, joined-left-side, joined-side-right, joined-mid-side}
+use Rattle.readback.proofs.ChannelPairs.{Pair, length-pairs, every-pair, leftAndRight-left-side, leftAndRight-side-right, leftAndRight-mid-side}
 
 -- the lane has n samples that fit its width
 pub record Held (b n : ℕ) (xs : List ℤ) (lane : Lane) : Type 0 where
@@ -31,8 +31,8 @@ pub record Held (b n : ℕ) (xs : List ℤ) (lane : Lane) : Type 0 where
 
 module _ (n : ℕ) (xs : List ℤ) where
   -- independent channels, from channel a on
-  flat-from : (k a m : ℕ) → length xs ≡ (a + m) * n → flatMap (stored n xs) (map (laneOf (Independent k)) (counting a m)) ≡ drop (a * n) xs
-  unfolding flatMap stored laneOf counting channel
+  flat-from : (k a m : ℕ) → length xs ≡ (a + m) * n → flatMap (stored n xs) (map (laneOf (Independent k)) (numbersFrom a m)) ≡ drop (a * n) xs
+  unfolding flatMap stored laneOf numbersFrom channelSamples
   flat-from k a zero e = sym (drop-of-length-le xs {i = a * n} (omega arith))
   flat-from k a (suc m) e =
       ap (λ ys. take n (drop (a * n) xs) ++ ys)
@@ -40,28 +40,28 @@ module _ (n : ℕ) (xs : List ℤ) where
       ∙ ap (λ i. drop i xs) (suc-mul a n) ∙ sym (drop-drop n (a * n) xs))
       ∙ take-append-drop n (drop (a * n) xs)
 
-  flat-independent : (k m : ℕ) → length xs ≡ m * n → flatMap (stored n xs) (map (laneOf (Independent k)) (counting 0 m)) ≡ xs
+  flat-independent : (k m : ℕ) → length xs ≡ m * n → flatMap (stored n xs) (map (laneOf (Independent k)) (numbersFrom 0 m)) ≡ xs
   flat-independent k m e = flat-from k 0 m (omega arith) ∙ ap (λ i. drop i xs) (zero-mul n)
 
-  left-and-right : length xs ≡ 2 * n → channel n xs 0 ++ channel n xs 1 ≡ xs
-  unfolding flatMap stored laneOf counting
-  left-and-right e = ap (λ ys. channel n xs 0 ++ ys) (sym (append-nil (channel n xs 1))) ∙ flat-independent 2 2 e
+  left-and-right : length xs ≡ 2 * n → channelSamples n xs 0 ++ channelSamples n xs 1 ≡ xs
+  unfolding flatMap stored laneOf numbersFrom
+  left-and-right e = ap (λ ys. channelSamples n xs 0 ++ ys) (sym (append-nil (channelSamples n xs 1))) ∙ flat-independent 2 2 e
 
   module _ {b : ℕ} (h : 1 ≤ b) (most : b ≤ 24) (fit : Every (Fits b) xs) where
-    channel-fits : (c : ℕ) → Every (Fits b) (channel n xs c)
-    unfolding channel
-    channel-fits c = every-take (Fits b) n (drop (c * n) xs) (every-drop (Fits b) (c * n) xs fit)
+    channelSamples-fits : (c : ℕ) → Every (Fits b) (channelSamples n xs c)
+    unfolding channelSamples
+    channelSamples-fits c = every-take (Fits b) n (drop (c * n) xs) (every-drop (Fits b) (c * n) xs fit)
 
     held-channel : (c : ℕ) → suc c * n ≤ length xs → Held b n xs (Channel c)
     unfolding stored laneWidth
-    held-channel c l = record { count = length-channel n xs c ∙ omega arith; fits = channel-fits c }
+    held-channel c l = record { count = length-channelSamples n xs c ∙ omega arith; fits = channelSamples-fits c }
 
-    pair : length xs ≡ 2 * n → Pair b n (channel n xs 0) (channel n xs 1)
+    pair : length xs ≡ 2 * n → Pair b n (channelSamples n xs 0) (channelSamples n xs 1)
     pair e = record {
-      fits-left = channel-fits 0;
-      fits-right = channel-fits 1;
-      length-left = length-channel n xs 0 ∙ omega arith;
-      length-right = length-channel n xs 1 ∙ omega arith;
+      fits-left = channelSamples-fits 0;
+      fits-right = channelSamples-fits 1;
+      length-left = length-channelSamples n xs 0 ∙ omega arith;
+      length-right = length-channelSamples n xs 1 ∙ omega arith;
     }
 
     held-mid : length xs ≡ 2 * n → Held b n xs Mid
@@ -86,24 +86,24 @@ module _ (n : ℕ) (xs : List ℤ) where
     held MidSide c e l = by-test (Held b n xs) (eqb c 0) Mid Side (λ _. held-mid e) (λ _. held-side e)
 
     -- two lanes give the two channels back
-    joined-two : (a : ChannelAssignment) (u v : Lane) → length xs ≡ 2 * n → joined a n (stored n xs u ++ stored n xs v) ≡ channel n xs 0 ++ channel n xs 1
-        → joined a n (flatMap (stored n xs) (u ∷ v ∷ [])) ≡ xs
+    leftAndRight-two : (a : ChannelAssignment) (u v : Lane) → length xs ≡ 2 * n → leftAndRight a n (stored n xs u ++ stored n xs v) ≡ channelSamples n xs 0 ++ channelSamples n xs 1
+        → leftAndRight a n (flatMap (stored n xs) (u ∷ v ∷ [])) ≡ xs
     unfolding flatMap
-    joined-two a u v e j = ap (λ ys. joined a n (stored n xs u ++ ys)) (append-nil (stored n xs v)) ∙ j ∙ left-and-right e
+    leftAndRight-two a u v e j = ap (λ ys. leftAndRight a n (stored n xs u ++ ys)) (append-nil (stored n xs v)) ∙ j ∙ left-and-right e
 
     module _ (a : ChannelAssignment) (e : length xs ≡ channelCount a * n) where
       pub lanes-held : Every (Held b n xs) (lanes a)
       unfolding lanes
       lanes-held =
-          every-map (Held b n xs) (laneOf a) (counting 0 (channelCount a))
-          (counted (λ c. Held b n xs (laneOf a c)) 0 (channelCount a) (λ c l. held a c e (omega arith)))
+          every-map (Held b n xs) (laneOf a) (numbersFrom 0 (channelCount a))
+          (every-numbersFrom (λ c. Held b n xs (laneOf a c)) 0 (channelCount a) (λ c l. held a c e (omega arith)))
 
-      pub joined-lanes : joined a n (flatMap (stored n xs) (lanes a)) ≡ xs
-      unfolding joined lanes laneOf counting channelCount stored
-      joined-lanes = go a e
+      pub leftAndRight-lanes : leftAndRight a n (flatMap (stored n xs) (lanes a)) ≡ xs
+      unfolding leftAndRight lanes laneOf numbersFrom channelCount stored
+      leftAndRight-lanes = go a e
         where
-          go : (a : ChannelAssignment) → length xs ≡ channelCount a * n → joined a n (flatMap (stored n xs) (lanes a)) ≡ xs
+          go : (a : ChannelAssignment) → length xs ≡ channelCount a * n → leftAndRight a n (flatMap (stored n xs) (lanes a)) ≡ xs
           go (Independent k) e = flat-independent k k e
-          go LeftSide e = joined-two LeftSide (Channel 0) Side e (joined-left-side h most (pair e))
-          go SideRight e = joined-two SideRight Side (Channel 1) e (joined-side-right h most (pair e))
-          go MidSide e = joined-two MidSide Mid Side e (joined-mid-side h most (pair e))
+          go LeftSide e = leftAndRight-two LeftSide (Channel 0) Side e (leftAndRight-left-side h most (pair e))
+          go SideRight e = leftAndRight-two SideRight Side (Channel 1) e (leftAndRight-side-right h most (pair e))
+          go MidSide e = leftAndRight-two MidSide Mid Side e (leftAndRight-mid-side h most (pair e))

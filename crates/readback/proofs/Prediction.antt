@@ -8,14 +8,14 @@ use mathlib.Core.List.{List, [], _∷_, _++_, reverse, reverseAux}
 use lib.Dec.{eqb}
 use lib.IntN.{ℤ, pos, negsuc, natAbs, negℤ, _+ℤ_, _-ℤ_, _*ℤ_, +ℤ-comm, -ℤ-+ℤ-cancel}
 use lib.ListN.{take, drop, take-append-drop}
-use Rattle.reading.proofs.Holding.{Every, every-take, every-drop, total}
+use Rattle.reading.proofs.Postconditions.{Every, every-take, every-drop, total}
 use Rattle.rfc9639.specs.Integers.{wrapped, shiftDown}
 use Rattle.rfc9639.specs.Prediction.{dot, predicted, restored, predict, fixedCoefficients}
-use Rattle.rfc9639.specs.Coding.{fold, residuals, fixedResiduals}
+use Rattle.rfc9639.specs.SubframeCoding.{fold, residuals, fixedResiduals}
 use Rattle.rfc9639.proofs.Widths.{Fits, wrapped-same}
 use Rattle.rfc9639.proofs.Magnitudes.{abs-of-fits, abs-add, abs-neg, abs-mul, abs-shiftDown}
-use Rattle.reading.proofs.Tests.{by-test}
-use Rattle.readback.proofs.Samples.{Small}
+use Rattle.reading.proofs.TestChains.{by-test}
+use Rattle.readback.proofs.SamplesAndResiduals.{Small}
 
 -- ---- the samples come back
 
@@ -59,8 +59,8 @@ abs-dot acc (c ∷ cs) (x ∷ xs) h =
     omega (arith, abs-dot (acc +ℤ c *ℤ x) cs xs (h .1), abs-add acc (c *ℤ x), abs-mul c x, mul-le-mul-left (natAbs c) (abs-of-fits (h .0)))
 
 module _ (cs : List ℤ) (few : weight cs ≤ 15) where
-  missed-small : (before : List ℤ) (x : ℤ) → Every (Fits 25) before → Fits 25 x → Small (x -ℤ shiftDown 0 (dot (pos 0) cs before))
-  missed-small before x h f =
+  residual-small : (before : List ℤ) (x : ℤ) → Every (Fits 25) before → Fits 25 x → Small (x -ℤ shiftDown 0 (dot (pos 0) cs before))
+  residual-small before x h f =
       let p = shiftDown 0 (dot (pos 0) cs before) in
       small-of-abs (x -ℤ p)
       (omega (arith, abs-add x (negℤ p), abs-neg p, abs-shiftDown 0 (dot (pos 0) cs before), abs-dot (pos 0) cs before h, abs-of-fits f))
@@ -68,11 +68,11 @@ module _ (cs : List ℤ) (few : weight cs ≤ 15) where
   residuals-small : (before xs : List ℤ) → Every (Fits 25) before → Every (Fits 25) xs → Every Small (residuals cs 0 before xs)
   unfolding residuals
   residuals-small before [] g h = tt
-  residuals-small before (x ∷ xs) g h = (missed-small before x g (h .0), residuals-small (x ∷ before) xs (h .0, g) (h .1))
+  residuals-small before (x ∷ xs) g h = (residual-small before x g (h .0), residuals-small (x ∷ before) xs (h .0, g) (h .1))
 
-fixed-few : (order : ℕ) → weight (fixedCoefficients order) ≤ 15
+fixed-weight : (order : ℕ) → weight (fixedCoefficients order) ≤ 15
 unfolding fixedCoefficients
-fixed-few order =
+fixed-weight order =
     test (eqb order 0) _ _ (λ _. omega arith)
     (λ _. test (eqb order 1) _ _ (λ _. omega arith)
     (λ _. test (eqb order 2) _ _ (λ _. omega arith) (λ _. test (eqb order 3) _ _ (λ _. omega arith) (λ _. omega arith))))
@@ -87,6 +87,6 @@ every-reverse P (x ∷ xs) ys h g = every-reverse P xs (x ∷ ys) (h .1) (h .0, 
 pub fixedResiduals-small : (order : ℕ) (xs : List ℤ) → Every (Fits 25) xs → Every Small (fixedResiduals order xs)
 unfolding fixedResiduals
 fixedResiduals-small order xs h =
-    residuals-small (fixedCoefficients order) (fixed-few order) (reverse (take order xs)) (drop order xs)
+    residuals-small (fixedCoefficients order) (fixed-weight order) (reverse (take order xs)) (drop order xs)
     (every-reverse (Fits 25) (take order xs) [] (every-take (Fits 25) order xs h) tt)
     (every-drop (Fits 25) order xs h)

@@ -8,11 +8,11 @@ use lib.Dec.{eqb}
 use lib.IntN.{ℤ}
 use lib.ListN.{length, drop}
 use Rattle.reading.specs.declared.Place.{Place}
-use Rattle.reading.specs.Reading.{run}
+use Rattle.reading.specs.Readers.{run}
 use Rattle.reading.specs.Bytes.{bitsOfBytes}
 use Rattle.reading.specs.Places.{placeOf, gotAt, toAt, runAt}
-use Rattle.reading.proofs.Running.{place-is, start-in, runAt-in}
-use Rattle.reading.proofs.Prefixes.{bits-append}
+use Rattle.reading.proofs.ByteRuns.{place-is, start-in, runAt-in}
+use Rattle.reading.proofs.BytePrefixes.{bitsOfBytes-append}
 use Rattle.rfc9639.specs.declared.FrameSetting.{FrameSetting}
 use Rattle.rfc9639.specs.declared.BlockTime.the-variants.{FrameNumber, SampleNumber}
 use Rattle.rfc9639.specs.declared.FrameHeader.{FrameHeader}
@@ -21,12 +21,12 @@ use Rattle.rfc9639.specs.Header.{timeOf, firstSample}
 use Rattle.rfc9639.specs.Frame.{Frame, frame}
 use Rattle.rfc9639.specs.Read.{Report, accepted, read}
 use Rattle.rfc9639.specs.Write.{frameBits, frameBytes, allowed, allFit}
-use Rattle.rfc9639.proofs.Whole.{length-frameBits, bits-of-frame}
-use Rattle.demands.proofs.Answers.{frame-result}
-use Rattle.readback.specs.First.{firstOf}
-use Rattle.readback.proofs.Spells.{Spells}
-use Rattle.rfc9639.proofs.Allowed.{allowed-facts}
-use Rattle.readback.proofs.Samples.{all-fit-facts}
+use Rattle.rfc9639.proofs.FrameBits.{length-frameBits, bits-of-frame}
+use Rattle.demands.proofs.Results.{frame-result}
+use Rattle.readback.specs.FirstSample.{firstOf}
+use Rattle.readback.proofs.SpelledValues.{Spells}
+use Rattle.rfc9639.proofs.AllowedSettings.{allowed-facts}
+use Rattle.readback.proofs.SamplesAndResiduals.{all-fit-facts}
 use Rattle.readback.proofs.Header.{headerOf}
 use Rattle.readback.proofs.Frame.{spells-frame}
 
@@ -59,7 +59,7 @@ module _ (set : FrameSetting) (xs : List ℤ) (rest : List ℕ) (room : ℕ) whe
   unfolding toAt
   run-frame s =
       runAt-in (frame (record { room = room })) (start-in (frameBytes set xs ++ rest))
-      ∙ ap (λ t. toAt (run (frame (record { room = room })) t 0)) (bits-append (frameBytes set xs) rest ∙ ap (λ t. t ++ bitsOfBytes rest) (bits-of-frame set xs))
+      ∙ ap (λ t. toAt (run (frame (record { room = room })) t 0)) (bitsOfBytes-append (frameBytes set xs) rest ∙ ap (λ t. t ++ bitsOfBytes rest) (bits-of-frame set xs))
       ∙ ap toAt (s .reads (bitsOfBytes rest))
       ∙ ap (gotAt written) (sym (place-is (length (frameBytes set xs)) 0 (0 + length (frameBits set xs)) (omega arith) (omega (arith, length-frameBits set xs))))
 

@@ -6,7 +6,7 @@ use lib.IntN.{pos}
 use lib.ListN.{replicate}
 use Rattle.rfc9639.specs.declared.FrameSetting.{FrameSetting}
 use Rattle.rfc9639.specs.Write.{write}
-use Rattle.rfc9639.proofs.Computing.{hex, minus, computedWrite}
+use Rattle.rfc9639.proofs.Evaluation.{hex, minus, computedWrite}
 
 abbrev setting : ℕ → ℕ → ℕ → ℕ → ℕ → FrameSetting
 setting channels bits blocking number size = record { channels = channels; bits = bits; blocking = blocking; number = number; size = size }

@@ -1,2 +1,2 @@
 -- What a written frame says about its samples.
-pub mod First
+pub mod FirstSample

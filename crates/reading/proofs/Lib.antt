@@ -1,9 +1,9 @@
 -- Laws that every reader obeys, whatever the format. The crates above cite them.
-pub mod Tests
-pub mod Spelling
-pub mod Prefix
+pub mod TestChains
+pub mod NumbersAsBits
+pub mod BitPrefixes
 pub mod Bits
-pub mod Running
-pub mod Prefixes
-pub mod Holding
+pub mod ByteRuns
+pub mod BytePrefixes
+pub mod Postconditions
 pub mod Outcome

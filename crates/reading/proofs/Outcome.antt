@@ -16,8 +16,8 @@ OneOutcome T ensured =
     → ensured κs args r (atExit T κs args left) → ensured κs args r′ (atExit T κs args left′) → (r ≡ r′) × (left ≡ left′)
 
 -- two values that equal a third are equal: the law that most such lines cite
-pub one : {A : Type 0} {x r r′ : A} → r ≡ x → r′ ≡ x → r ≡ r′
-one p q = p ∙ sym q
+pub one-value : {A : Type 0} {x r r′ : A} → r ≡ x → r′ ≡ x → r ≡ r′
+one-value p q = p ∙ sym q
 
 pub is-inside-one : OneOutcome is_inside.ended is_inside.Reads.Learnt
-is-inside-one κs args r r′ left left′ p q = (one p q, refl)
+is-inside-one κs args r r′ left left′ p q = (one-value p q, refl)

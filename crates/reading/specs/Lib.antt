@@ -1,5 +1,5 @@
 -- Readers of a bit format: what a reader is, and what it gets from an input. Nothing here is about FLAC.
-pub mod Reading
+pub mod Readers
 pub mod Bytes
 pub mod Places
-pub mod Spelling
+pub mod NumbersAsBits

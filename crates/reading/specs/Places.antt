@@ -6,7 +6,7 @@ use mathlib.Core.List.{List}
 use lib.Dec.{leb, ltb}
 use lib.ListN.{length}
 use Rattle.reading.specs.declared.Place.{Place}
-use Rattle.reading.specs.Reading.{Ask, Got, got, refused, short, run, if_then_else_}
+use Rattle.reading.specs.Readers.{Ask, RunResult, got, refused, short, run, if_then_else_}
 use Rattle.reading.specs.Bytes.{bitsOfBytes}
 
 abbrev pub position : Place → ℕ
@@ -24,7 +24,7 @@ pub data At (A : Type 0) : Type 0 where
   refusedAt : ℕ → At A
   shortAt : At A
 
-unfoldable pub toAt : {A : Type 0} → Got A → At A
+unfoldable pub toAt : {A : Type 0} → RunResult A → At A
 toAt (got a j) = gotAt a (placeOf j)
 toAt (refused n j) = refusedAt n
 toAt short = shortAt

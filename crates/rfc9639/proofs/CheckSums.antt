@@ -6,7 +6,7 @@ use mathlib.Core.List.{List, [], _∷_}
 use lib.Bits.{bitXor, xor-lt}
 use lib.Dec.{eqb, lit<}
 use lib.Pow.{pow-pos}
-use Rattle.reading.specs.Reading.{if_then_else_}
+use Rattle.reading.specs.Readers.{if_then_else_}
 use Rattle.rfc9639.specs.CheckSums.{crcBit, crcBits, crc8, crc16}
 
 module _ (w poly : ℕ) (hp : poly < 2 ^ w) where

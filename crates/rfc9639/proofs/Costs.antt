@@ -7,12 +7,12 @@ use mathlib.Core.List.{List, [], _∷_, _++_}
 use lib.IntN.{ℤ}
 use lib.ListN.{length, take, length-append}
 use lib.Seq.{length-take-le}
-use Rattle.reading.specs.Spelling.{bitsOf, unary, row}
-use Rattle.reading.proofs.Holding.{total}
-use Rattle.reading.proofs.Spelling.{length-bitsOf, length-unary}
+use Rattle.reading.specs.NumbersAsBits.{bitsOf, unary, row}
+use Rattle.reading.proofs.Postconditions.{total}
+use Rattle.reading.proofs.NumbersAsBits.{length-bitsOf, length-unary}
 use Rattle.rfc9639.specs.declared.Candidate.the-variants.{Constant, Verbatim, Fixed}
 use Rattle.rfc9639.specs.Integers.{low}
-use Rattle.rfc9639.specs.Coding.{fold, riceBits, residualBits, fixedResiduals, plain, subframeHead, codedAs, cost}
+use Rattle.rfc9639.specs.SubframeCoding.{fold, riceBits, residualBits, fixedResiduals, plain, subframeHeaderBits, codedAs, cost}
 
 length-plain : (w : ℕ) (xs : List ℤ) → length (plain w xs) ≡ length xs * w
 unfolding plain row
@@ -38,9 +38,9 @@ length-rices k (r ∷ rs) =
     length-append (riceBits k r) (row (riceBits k) rs) ∙ ap₂ (λ (m n : ℕ). m + n) (length-rice k r) (length-rices k rs)
     ∙ (let e : fold r / 2 ^ k + (k + 1) + (quotients k rs + length rs * (k + 1)) ≡ fold r / 2 ^ k + quotients k rs + suc (length rs) * (k + 1) = omega (arith, suc-mul (length rs) (k + 1)) in e)
 
-length-head : (code : ℕ) → length (subframeHead code) ≡ 8
-unfolding subframeHead bitsOf
-length-head code = refl
+length-subframeHeaderBits : (code : ℕ) → length (subframeHeaderBits code) ≡ 8
+unfolding subframeHeaderBits bitsOf
+length-subframeHeaderBits code = refl
 
 length-residual : (k : ℕ) (rs : List ℤ) → length (residualBits k rs) ≡ 10 + (quotients k rs + length rs * (k + 1))
 unfolding residualBits bitsOf
@@ -49,21 +49,21 @@ length-residual k rs = omega (arith, length-rices k rs)
 module _ (w : ℕ) (xs : List ℤ) where
   pub cost-constant : cost w xs Constant ≡ 8 + length (take 1 xs) * w
   unfolding cost codedAs
-  cost-constant = length-append (subframeHead 0) (plain w (take 1 xs)) ∙ ap₂ (λ (m n : ℕ). m + n) (length-head 0) (length-plain w (take 1 xs))
+  cost-constant = length-append (subframeHeaderBits 0) (plain w (take 1 xs)) ∙ ap₂ (λ (m n : ℕ). m + n) (length-subframeHeaderBits 0) (length-plain w (take 1 xs))
 
   pub cost-verbatim : cost w xs Verbatim ≡ 8 + length xs * w
   unfolding cost codedAs
-  cost-verbatim = length-append (subframeHead 1) (plain w xs) ∙ ap₂ (λ (m n : ℕ). m + n) (length-head 1) (length-plain w xs)
+  cost-verbatim = length-append (subframeHeaderBits 1) (plain w xs) ∙ ap₂ (λ (m n : ℕ). m + n) (length-subframeHeaderBits 1) (length-plain w xs)
 
   pub cost-fixed : (order k : ℕ) → order ≤ length xs
       → cost w xs (Fixed order k) ≡ 18 + order * w + (quotients k (fixedResiduals order xs) + length (fixedResiduals order xs) * (k + 1))
   unfolding cost codedAs
   cost-fixed order k h =
-      length-append (subframeHead (8 + order) ++ plain w (take order xs)) (residualBits k (fixedResiduals order xs))
+      length-append (subframeHeaderBits (8 + order) ++ plain w (take order xs)) (residualBits k (fixedResiduals order xs))
       ∙ ap₂ (λ (m n : ℕ). m + n) front (length-residual k (fixedResiduals order xs))
       ∙ (let e : 8 + order * w + (10 + (quotients k (fixedResiduals order xs) + length (fixedResiduals order xs) * (k + 1))) ≡ 18 + order * w + (quotients k (fixedResiduals order xs) + length (fixedResiduals order xs) * (k + 1)) = omega arith in e)
     where
-      front : length (subframeHead (8 + order) ++ plain w (take order xs)) ≡ 8 + order * w
+      front : length (subframeHeaderBits (8 + order) ++ plain w (take order xs)) ≡ 8 + order * w
       front =
-          length-append (subframeHead (8 + order)) (plain w (take order xs))
-          ∙ ap₂ (λ (m n : ℕ). m + n) (length-head (8 + order)) (length-plain w (take order xs) ∙ ap (λ n. n * w) (length-take-le order xs h))
+          length-append (subframeHeaderBits (8 + order)) (plain w (take order xs))
+          ∙ ap₂ (λ (m n : ℕ). m + n) (length-subframeHeaderBits (8 + order)) (length-plain w (take order xs) ∙ ap (λ n. n * w) (length-take-le order xs h))

@@ -10,8 +10,8 @@ use Rattle.rfc9639.specs.declared.Lane.{Lane}
 use Rattle.rfc9639.specs.declared.Lane.the-variants.{Channel, Mid, Side}
 use Rattle.rfc9639.specs.Prediction.{fixedCoefficients}
 use Rattle.rfc9639.specs.Stereo.{pairwise}
-use Rattle.rfc9639.specs.Coding.{residuals, fixedResiduals}
-use Rattle.rfc9639.specs.Write.{midOf, sideOf, channel, stored}
+use Rattle.rfc9639.specs.SubframeCoding.{residuals, fixedResiduals}
+use Rattle.rfc9639.specs.Write.{midOf, sideOf, channelSamples, stored}
 
 pub length-residuals : (cs : List ℤ) (shift : ℕ) (before xs : List ℤ) → length (residuals cs shift before xs) ≡ length xs
 unfolding residuals
@@ -28,13 +28,13 @@ length-pairwise f [] ys = sym (zero-min (length ys))
 length-pairwise f (x ∷ xs) [] = sym (min-zero (suc (length xs)))
 length-pairwise f (x ∷ xs) (y ∷ ys) = ap suc (length-pairwise f xs ys) ∙ sym (suc-min-suc (length xs) (length ys))
 
-pub length-channel : (n : ℕ) (xs : List ℤ) (c : ℕ) → length (channel n xs c) ≡ min n (length xs - c * n)
-unfolding channel
-length-channel n xs c = length-take n (drop (c * n) xs) ∙ ap (min n) (length-drop (c * n) xs)
+pub length-channelSamples : (n : ℕ) (xs : List ℤ) (c : ℕ) → length (channelSamples n xs c) ≡ min n (length xs - c * n)
+unfolding channelSamples
+length-channelSamples n xs c = length-take n (drop (c * n) xs) ∙ ap (min n) (length-drop (c * n) xs)
 
 -- a lane stores at most n samples
 pub stored-at-most : (n : ℕ) (xs : List ℤ) (lane : Lane) → length (stored n xs lane) ≤ n
 unfolding stored
-stored-at-most n xs (Channel c) = omega (arith, length-channel n xs c)
-stored-at-most n xs Mid = omega (arith, length-pairwise midOf (channel n xs 0) (channel n xs 1), length-channel n xs 0)
-stored-at-most n xs Side = omega (arith, length-pairwise sideOf (channel n xs 0) (channel n xs 1), length-channel n xs 0)
+stored-at-most n xs (Channel c) = omega (arith, length-channelSamples n xs c)
+stored-at-most n xs Mid = omega (arith, length-pairwise midOf (channelSamples n xs 0) (channelSamples n xs 1), length-channelSamples n xs 0)
+stored-at-most n xs Side = omega (arith, length-pairwise sideOf (channelSamples n xs 0) (channelSamples n xs 1), length-channelSamples n xs 0)

@@ -94,7 +94,7 @@ module _ (m : ℕ) (h : zero < m) where
 -- ---- the low bits of an integer
 
 -- z equals x modulo 2 ^ w
-pub record Alike (w : ℕ) (z : ℤ) (x : ℕ) : Type 0 where
+pub record Congruent (w : ℕ) (z : ℤ) (x : ℕ) : Type 0 where
   pub modulo : Modulo (2 ^ w) z x
 
 pub low-lt : (w : ℕ) (z : ℤ) → low w z < 2 ^ w
@@ -106,15 +106,15 @@ module _ (w : ℕ) where
   full : (n : ℕ) → 2 ^ w - suc (n % 2 ^ w) + suc n ≡ 2 ^ w + n / 2 ^ w * 2 ^ w
   full n = omega (arith, div-add-mod' n (2 ^ w), mod-lt n (pow-pos w))
 
-  pub low-alike : (z : ℤ) → Alike w z (low w z)
+  pub low-congruent : (z : ℤ) → Congruent w z (low w z)
   unfolding low
-  low-alike (pos n) = record { modulo = mod-mod n (2 ^ w) }
-  low-alike (negsuc n) = record {
+  low-congruent (pos n) = record { modulo = mod-mod n (2 ^ w) }
+  low-congruent (negsuc n) = record {
     modulo =
         ap (λ x. x % 2 ^ w) (full n) ∙ add-mul-mod-self-right (2 ^ w) (n / 2 ^ w) (2 ^ w) ∙ mod-self (2 ^ w);
   }
 
-  unique : (z : ℤ) (x : ℕ) → x < 2 ^ w → Alike w z x → x ≡ low w z
+  unique : (z : ℤ) (x : ℕ) → x < 2 ^ w → Congruent w z x → x ≡ low w z
   unfolding low
   unique (pos n) x h p = sym (mod-eq-of-lt h) ∙ p .modulo
   unique (negsuc n) x h p =
@@ -126,21 +126,21 @@ module _ (w : ℕ) where
             ∙ ap (λ k. k % 2 ^ w) (let f : n + suc x ≡ x + suc n = omega arith in f) ∙ p .modulo),
       )
 
-  pub low-of : {z : ℤ} {x : ℕ} → Alike w z x → x % 2 ^ w ≡ low w z
-  low-of {z} {x} p = unique z (x % 2 ^ w) (mod-lt x (pow-pos w)) (record { modulo = modulo-mod (2 ^ w) (pow-pos w) z x (p .modulo) })
+  pub low-of-congruent : {z : ℤ} {x : ℕ} → Congruent w z x → x % 2 ^ w ≡ low w z
+  low-of-congruent {z} {x} p = unique z (x % 2 ^ w) (mod-lt x (pow-pos w)) (record { modulo = modulo-mod (2 ^ w) (pow-pos w) z x (p .modulo) })
 
-  pub alike-add : {a b : ℤ} {x y : ℕ} → Alike w a x → Alike w b y → Alike w (a +ℤ b) (x + y)
-  alike-add {a} {b} {x} {y} p q = record { modulo = modulo-add (2 ^ w) (pow-pos w) a b x y (p .modulo) (q .modulo) }
+  pub congruent-add : {a b : ℤ} {x y : ℕ} → Congruent w a x → Congruent w b y → Congruent w (a +ℤ b) (x + y)
+  congruent-add {a} {b} {x} {y} p q = record { modulo = modulo-add (2 ^ w) (pow-pos w) a b x y (p .modulo) (q .modulo) }
 
-  pub alike-mul : {z : ℤ} {x : ℕ} → Alike w z x → (k : ℕ) → Alike w (z *ℤ pos k) (x * k)
-  alike-mul {z} {x} p k = record { modulo = modulo-mul (2 ^ w) (pow-pos w) z x k (p .modulo) }
+  pub congruent-mul : {z : ℤ} {x : ℕ} → Congruent w z x → (k : ℕ) → Congruent w (z *ℤ pos k) (x * k)
+  congruent-mul {z} {x} p k = record { modulo = modulo-mul (2 ^ w) (pow-pos w) z x k (p .modulo) }
 
   -- the low bits of a sum and of a multiple, by the low bits of the parts
   pub low-add : (a b : ℤ) → low w (a +ℤ b) ≡ (low w a + low w b) % 2 ^ w
-  low-add a b = sym (low-of (alike-add (low-alike a) (low-alike b)))
+  low-add a b = sym (low-of-congruent (congruent-add (low-congruent a) (low-congruent b)))
 
   pub low-mul : (z : ℤ) (k : ℕ) → low w (z *ℤ pos k) ≡ (low w z * k) % 2 ^ w
-  low-mul z k = sym (low-of (alike-mul (low-alike z) k))
+  low-mul z k = sym (low-of-congruent (congruent-mul (low-congruent z) k))
 
   -- the value of w bits has these low bits
   pub low-signed : (v : ℕ) → v < 2 ^ w → low w (signed w v) ≡ v
@@ -176,14 +176,14 @@ module _ (w j : ℕ) where
   modulo-narrow (pos n) x p = narrower x n p
   modulo-narrow (negsuc n) x p = narrower (x + suc n) 0 (p ∙ sym (zero-mod (2 ^ (j + w)))) ∙ zero-mod (2 ^ w)
 
-  pub alike-narrow : {z : ℤ} {x : ℕ} → Alike (j + w) z x → Alike w z x
-  alike-narrow {z} {x} p = record { modulo = modulo-narrow z x (p .modulo) }
+  pub congruent-narrow : {z : ℤ} {x : ℕ} → Congruent (j + w) z x → Congruent w z x
+  congruent-narrow {z} {x} p = record { modulo = modulo-narrow z x (p .modulo) }
 
 module _ (w w′ : ℕ) (h : w ≤ w′) where
   pub low-low : (z : ℤ) → low w′ z % 2 ^ w ≡ low w z
   low-low z =
       subst (λ n. low n z % 2 ^ w ≡ low w z) (let f : w′ - w + w ≡ w′ = omega arith in f)
-      (low-of w (alike-narrow w (w′ - w) (low-alike (w′ - w + w) z)))
+      (low-of-congruent w (congruent-narrow w (w′ - w) (low-congruent (w′ - w + w) z)))
 
 -- ---- what fits a width, in two's complement
 

@@ -4,7 +4,7 @@ use Prim.Native.Nat.{ℕ, _+_, _-_, _*_, _/_, _%_, _^_}
 use mathlib.Core.List.{List, [], _∷_}
 use lib.Bits.{bitXor}
 use lib.Dec.{eqb}
-use Rattle.reading.specs.Reading.{if_then_else_}
+use Rattle.reading.specs.Readers.{if_then_else_}
 
 -- The CRC of w bits after one more bit b of the input. `poly` has one bit for each term of the polynomial below x^w.
 unfoldable pub crcBit : ℕ → ℕ → ℕ → ℕ → ℕ

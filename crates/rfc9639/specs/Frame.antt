@@ -4,21 +4,21 @@ use mathlib.Core.List.{List, [], _∷_}
 use lib.Dec.{leb, ltb, eqb}
 use lib.IntN.{ℤ}
 use lib.ListN.{length, replicate}
-use Rattle.reading.specs.Reading.{Ask, done, _>>=_, _>>_, bits, passed, require, each}
+use Rattle.reading.specs.Readers.{Ask, done, _>>=_, _>>_, bits, passed, require, each}
 use Rattle.rfc9639.specs.declared.ChannelAssignment.{ChannelAssignment}
 use Rattle.rfc9639.specs.declared.ChannelAssignment.the-variants.{Independent, LeftSide, SideRight, MidSide}
 use Rattle.rfc9639.specs.declared.FrameHeader.{FrameHeader}
 use Rattle.rfc9639.specs.CheckSums.{crc16}
 use Rattle.rfc9639.specs.Header.{header, sampleCount}
 use Rattle.rfc9639.specs.Subframe.{subframe}
-use Rattle.rfc9639.specs.Stereo.{joined}
+use Rattle.rfc9639.specs.Stereo.{leftAndRight}
 
 -- what the caller gives besides the bytes: room for this many samples
-pub record Settings : Type 0 where
+pub record ReaderSettings : Type 0 where
   pub room : ℕ
 
 -- a header whose frame can be read: it states the bit depth, and there is room for the frame's samples
-unfoldable pub opening : Settings → Ask FrameHeader
+unfoldable pub opening : ReaderSettings → Ask FrameHeader
 opening set = do
   h ← header
   require (ltb 0 (h .bits)) 8
@@ -50,13 +50,13 @@ unfoldable pub body : FrameHeader → Ask (List ℤ)
 body h = do
   xs ← each (subframe (h .size)) (widths (h .channels) (h .bits))
   footer
-  done (joined (h .channels) (h .size) xs)
+  done (leftAndRight (h .channels) (h .size) xs)
 
 pub record Frame : Type 0 where
   pub header : FrameHeader
   pub samples : List ℤ
 
-unfoldable pub frame : Settings → Ask Frame
+unfoldable pub frame : ReaderSettings → Ask Frame
 frame set = do
   h ← opening set
   xs ← body h

@@ -26,10 +26,10 @@ goesOn undecided rest = []
 goesOn refuse rest = []
 
 -- at most n answers
-unfoldable pub answersIn : ℕ → (List ℕ → Result) → List ℕ → List Result
-answersIn zero one s = []
-answersIn (suc n) one s = one s ∷ goesOn (verdict (one s)) (answersIn n one (drop (one s .report .consumed) s))
+unfoldable pub answersUpTo : ℕ → (List ℕ → Result) → List ℕ → List Result
+answersUpTo zero one s = []
+answersUpTo (suc n) one s = one s ∷ goesOn (verdict (one s)) (answersUpTo n one (drop (one s .report .consumed) s))
 
 -- An accepted frame has at least one byte. So there are at most as many frames as bytes, and then one refusal.
 unfoldable pub answers : (List ℕ → Result) → List ℕ → List Result
-answers one s = answersIn (suc (length s)) one s
+answers one s = answersUpTo (suc (length s)) one s

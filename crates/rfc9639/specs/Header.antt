@@ -3,7 +3,7 @@
 use Prim.Native.Nat.{ℕ, _*_, _/_, _%_}
 use mathlib.Core.Bool.{_||_}
 use lib.Dec.{leb, ltb, eqb}
-use Rattle.reading.specs.Reading.{Ask, done, _>>=_, _>>_, bits, passed, require, if_then_else_}
+use Rattle.reading.specs.Readers.{Ask, done, _>>=_, _>>_, bits, passed, require, if_then_else_}
 use Rattle.rfc9639.specs.declared.BlockTime.{BlockTime}
 use Rattle.rfc9639.specs.declared.BlockTime.the-variants.{FrameNumber, SampleNumber}
 use Rattle.rfc9639.specs.declared.ChannelAssignment.{ChannelAssignment}
@@ -73,8 +73,8 @@ headerSum = do
   require (eqb sum (crc8 before)) 6
 
 -- the header after its first four bytes
-unfoldable pub headerBehind : Codes → Ask FrameHeader
-headerBehind c = do
+unfoldable pub headerAfterCodes : Codes → Ask FrameHeader
+headerAfterCodes c = do
   time ← blockTime (c .blocking)
   size ← blockSize (c .size)
   rate ← bits (rateBits (c .rate))
@@ -84,7 +84,7 @@ headerBehind c = do
 unfoldable pub header : Ask FrameHeader
 header = do
   c ← codes
-  headerBehind c
+  headerAfterCodes c
 
 -- ---- what a header says of its frame
 

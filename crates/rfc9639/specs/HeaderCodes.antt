@@ -3,8 +3,8 @@
 use Prim.Native.Nat.{ℕ, _+_, _-_, _*_, _^_}
 use mathlib.Core.List.{List, []}
 use lib.Dec.{leb, ltb, eqb}
-use Rattle.reading.specs.Reading.{Ask, done, stop, _>>=_, _>>_, bits, require, if_then_else_}
-use Rattle.reading.specs.Spelling.{bitsOf}
+use Rattle.reading.specs.Readers.{Ask, done, stop, _>>=_, _>>_, bits, require, if_then_else_}
+use Rattle.reading.specs.NumbersAsBits.{bitsOf}
 use Rattle.rfc9639.specs.declared.ChannelAssignment.{ChannelAssignment}
 use Rattle.rfc9639.specs.declared.ChannelAssignment.the-variants.{Independent, LeftSide, SideRight, MidSide}
 

@@ -3,7 +3,7 @@
 use Prim.Native.Nat.{ℕ, suc, _-_, _*_, _/_, _%_, _^_}
 use lib.Dec.{ltb}
 use lib.IntN.{ℤ, pos, negsuc, _*ℤ_}
-use Rattle.reading.specs.Reading.{Ask, done, _>>=_, bits, if_then_else_}
+use Rattle.reading.specs.Readers.{Ask, done, _>>=_, bits, if_then_else_}
 
 -- the value of w bits, read in two's complement
 unfoldable pub signed : ℕ → ℕ → ℤ
@@ -28,7 +28,7 @@ unfoldable pub shiftUp : ℕ → ℤ → ℤ
 shiftUp k z = wrapped 32 (z *ℤ pos (2 ^ k))
 
 -- a sample of w bits
-unfoldable pub sample : ℕ → Ask ℤ
-sample w = do
+unfoldable pub signedBits : ℕ → Ask ℤ
+signedBits w = do
   v ← bits w
   done (signed w v)

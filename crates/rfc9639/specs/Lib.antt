@@ -12,5 +12,5 @@ pub mod Stereo
 pub mod Frame
 pub mod Read
 pub mod FrameByFrame
-pub mod Coding
+pub mod SubframeCoding
 pub mod Write

@@ -5,12 +5,12 @@ use mathlib.Core.List.{List, [], _∷_, _++_}
 use lib.IntN.{ℤ, pos}
 use lib.ListN.{length, replicate, drop}
 use Rattle.reading.specs.declared.Place.{Place}
-use Rattle.reading.specs.Reading.{Ask, done, _>>=_, _>>_, bits}
+use Rattle.reading.specs.Readers.{Ask, done, _>>=_, _>>_, bits}
 use Rattle.reading.specs.Places.{At, gotAt, refusedAt, shortAt, runAt, placeOf}
 use Rattle.rfc9639.specs.declared.FrameHeader.{FrameHeader}
 use Rattle.rfc9639.specs.HeaderCodes.{channelCount}
 use Rattle.rfc9639.specs.Header.{sampleCount, firstSample}
-use Rattle.rfc9639.specs.Frame.{Settings, Frame, opening, frame}
+use Rattle.rfc9639.specs.Frame.{ReaderSettings, Frame, opening, frame}
 
 -- `number` is 0 for a frame. Else it is the refusal's, and all other fields are 0. `consumed` counts the frame's bytes.
 pub record Report : Type 0 where
@@ -51,7 +51,7 @@ cutShort [] = 1
 cutShort (b ∷ bytes) = 2
 
 -- The subframes have begun once the first bit of the first one is read. From there on a refusal leaves zeros.
-unfoldable pub begun : Settings → Ask FrameHeader
+unfoldable pub begun : ReaderSettings → Ask FrameHeader
 begun set = do
   h ← opening set
   bit ← bits 1
@@ -68,7 +68,7 @@ resultOf bytes (gotAt h at) whole = finished h whole
 resultOf bytes (refusedAt n) whole = untouched n
 resultOf bytes shortAt whole = untouched (cutShort bytes)
 
-unfoldable pub result : Settings → List ℕ → Result
+unfoldable pub result : ReaderSettings → List ℕ → Result
 result set bytes = resultOf bytes (runAt (begun set) bytes (placeOf 0)) (runAt (frame set) bytes (placeOf 0))
 
 pub record Outcome : Type 0 where

@@ -4,7 +4,7 @@ use mathlib.Core.List.{List, _∷_}
 use lib.Dec.{leb, ltb, eqb}
 use lib.IntN.{ℤ, pos, negsuc}
 use lib.ListN.{replicate}
-use Rattle.reading.specs.Reading.{Ask, done, stop, _>>=_, _>>_, bits, zeros, require, many, each, if_then_else_}
+use Rattle.reading.specs.Readers.{Ask, done, stop, _>>=_, _>>_, bits, zeros, require, many, each, if_then_else_}
 
 -- Section 9.2.7.2: a residual from its folded (zigzag) form. 2 n unfolds to n, and 2 n + 1 to -1 - n.
 unfoldable pub unfolded : ℕ → ℤ
@@ -23,14 +23,14 @@ rice k = do
 
 -- n residuals with the Rice parameter k. The last parameter of each method escapes to unencoded residuals (section
 -- 9.2.7.1), which are not supported.
-unfoldable pub coded : ℕ → ℕ → ℕ → Ask (List ℤ)
-coded method k n = if eqb k (2 ^ (4 + method) - 1) then stop 8 else many n (rice k)
+unfoldable pub codedResiduals : ℕ → ℕ → ℕ → Ask (List ℤ)
+codedResiduals method k n = if eqb k (2 ^ (4 + method) - 1) then stop 8 else many n (rice k)
 
 -- Section 9.2.7: a Rice parameter, of 4 bits in method 0 and of 5 in method 1, then the residuals.
 unfoldable pub partition : ℕ → ℕ → Ask (List ℤ)
 partition method n = do
   k ← bits (4 + method)
-  coded method k n
+  codedResiduals method k n
 
 -- 2 ^ order partitions of one size; the first has fewer residuals by the number of warm-up samples
 unfoldable pub partitionSizes : ℕ → ℕ → ℕ → List ℕ

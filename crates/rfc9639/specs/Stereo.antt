@@ -31,8 +31,8 @@ pairwise f (x ∷ xs) [] = []
 pairwise f (x ∷ xs) (y ∷ ys) = f x y ∷ pairwise f xs ys
 
 -- left, then right, from two channels as they are stored
-unfoldable pub joined : ChannelAssignment → ℕ → List ℤ → List ℤ
-joined (Independent k) n xs = xs
-joined LeftSide n xs = take n xs ++ pairwise rightOf (take n xs) (drop n xs)
-joined SideRight n xs = pairwise leftOf (take n xs) (drop n xs) ++ drop n xs
-joined MidSide n xs = pairwise leftOfMid (take n xs) (drop n xs) ++ pairwise rightOfMid (take n xs) (drop n xs)
+unfoldable pub leftAndRight : ChannelAssignment → ℕ → List ℤ → List ℤ
+leftAndRight (Independent k) n xs = xs
+leftAndRight LeftSide n xs = take n xs ++ pairwise rightOf (take n xs) (drop n xs)
+leftAndRight SideRight n xs = pairwise leftOf (take n xs) (drop n xs) ++ drop n xs
+leftAndRight MidSide n xs = pairwise leftOfMid (take n xs) (drop n xs) ++ pairwise rightOfMid (take n xs) (drop n xs)

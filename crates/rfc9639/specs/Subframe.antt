@@ -5,11 +5,11 @@ use mathlib.Core.List.{List, map}
 use lib.Dec.{leb, ltb, eqb}
 use lib.IntN.{ℤ}
 use lib.ListN.{replicate}
-use Rattle.reading.specs.Reading.{Ask, done, stop, _>>=_, _>>_, bits, zeros, require, many, if_then_else_}
+use Rattle.reading.specs.Readers.{Ask, done, stop, _>>=_, _>>_, bits, zeros, require, many, if_then_else_}
 use Rattle.rfc9639.specs.declared.SubframeType.{SubframeType}
 use Rattle.rfc9639.specs.declared.SubframeType.the-variants.{Constant, Verbatim, Fixed, Lpc}
 use Rattle.rfc9639.specs.declared.SubframeHeader.{SubframeHeader}
-use Rattle.rfc9639.specs.Integers.{sample, shiftUp}
+use Rattle.rfc9639.specs.Integers.{signedBits, shiftUp}
 use Rattle.rfc9639.specs.Residual.{residual}
 use Rattle.rfc9639.specs.Prediction.{predict, fixedCoefficients}
 
@@ -30,8 +30,8 @@ wastedBits = do
   if eqb flag 0 then done 0 else (do z ← zeros; done (z + 1))
 
 -- the wasted bits: at most 31, and fewer than the bits of the channel's samples
-unfoldable pub wastedJudged : ℕ → Ask ℕ
-wastedJudged width = do
+unfoldable pub checkedWastedBits : ℕ → Ask ℕ
+checkedWastedBits width = do
   wasted ← wastedBits
   require (leb wasted 31 && ltb wasted width) 9
   done wasted
@@ -41,7 +41,7 @@ unfoldable pub kindAndWasted : ℕ → Ask SubframeHeader
 kindAndWasted width = do
   code ← bits 6
   kind ← subframeType code
-  wasted ← wastedJudged width
+  wasted ← checkedWastedBits width
   done (record { kind = kind; wasted = wasted })
 
 unfoldable pub subframeHeader : ℕ → Ask SubframeHeader
@@ -60,7 +60,7 @@ orderOf (Lpc k) = k
 -- Section 9.2.5: the warm-up samples of w bits, then the residual.
 unfoldable pub fixed : ℕ → ℕ → ℕ → Ask (List ℤ)
 fixed order w n = do
-  warm ← many order (sample w)
+  warm ← many order (signedBits w)
   res ← residual order n
   done (predict (fixedCoefficients order) 0 warm res)
 
@@ -75,37 +75,37 @@ quantization = do
   done (precision + 1, shift)
 
 -- the coefficients, the latest sample's first, then the residual
-unfoldable pub lpcBehind : ℕ → ℕ → ℕ → List ℤ → ℕ → Ask (List ℤ)
-lpcBehind order precision shift warm n = do
-  coefficients ← many order (sample precision)
+unfoldable pub lpcAfterShift : ℕ → ℕ → ℕ → List ℤ → ℕ → Ask (List ℤ)
+lpcAfterShift order precision shift warm n = do
+  coefficients ← many order (signedBits precision)
   res ← residual order n
   done (predict coefficients shift warm res)
 
 unfoldable pub lpc : ℕ → ℕ → ℕ → Ask (List ℤ)
 lpc order w n = do
-  warm ← many order (sample w)
+  warm ← many order (signedBits w)
   (precision, shift) ← quantization
-  lpcBehind order precision shift warm n
+  lpcAfterShift order precision shift warm n
 
 -- n samples of w bits, by type (sections 9.2.3 to 9.2.6)
-unfoldable pub samples : SubframeType → ℕ → ℕ → Ask (List ℤ)
-samples Constant w n = do
-  x ← sample w
+unfoldable pub samplesByType : SubframeType → ℕ → ℕ → Ask (List ℤ)
+samplesByType Constant w n = do
+  x ← signedBits w
   done (replicate n x)
-samples Verbatim w n = many n (sample w)
-samples (Fixed k) w n = fixed k w n
-samples (Lpc k) w n = lpc k w n
+samplesByType Verbatim w n = many n (signedBits w)
+samplesByType (Fixed k) w n = fixed k w n
+samplesByType (Lpc k) w n = lpc k w n
 
 -- A channel of n samples, after its header. Samples are stored without their wasted bits, and get them back as zeros at
 -- the low end.
-unfoldable pub subframeBehind : ℕ → ℕ → SubframeHeader → Ask (List ℤ)
-subframeBehind n width h = do
+unfoldable pub subframeAfterHeader : ℕ → ℕ → SubframeHeader → Ask (List ℤ)
+subframeAfterHeader n width h = do
   require (leb (orderOf (h .kind)) n) 9
-  xs ← samples (h .kind) (width - h .wasted) n
+  xs ← samplesByType (h .kind) (width - h .wasted) n
   done (map (shiftUp (h .wasted)) xs)
 
 -- a channel of n samples of `width` bits
 unfoldable pub subframe : ℕ → ℕ → Ask (List ℤ)
 subframe n width = do
   h ← subframeHeader width
-  subframeBehind n width h
+  subframeAfterHeader n width h

@@ -5,9 +5,9 @@ use mathlib.Core.List.{List, [], _∷_, _++_, map}
 use lib.Dec.{leb, ltb, eqb}
 use lib.IntN.{ℤ, pos, negsuc, _+ℤ_, _-ℤ_}
 use lib.ListN.{length, take, drop, replicate}
-use Rattle.reading.specs.Reading.{if_then_else_}
+use Rattle.reading.specs.Readers.{if_then_else_}
 use Rattle.reading.specs.Bytes.{bitsOfBytes}
-use Rattle.reading.specs.Spelling.{bitsOf, row, packed}
+use Rattle.reading.specs.NumbersAsBits.{bitsOf, row, packed}
 use Rattle.rfc9639.specs.declared.ChannelAssignment.{ChannelAssignment}
 use Rattle.rfc9639.specs.declared.ChannelAssignment.the-variants.{Independent, LeftSide, SideRight, MidSide}
 use Rattle.rfc9639.specs.declared.FrameSetting.{FrameSetting}
@@ -18,7 +18,7 @@ use Rattle.rfc9639.specs.Integers.{shiftDown}
 use Rattle.rfc9639.specs.HeaderCodes.{syncCode, largestBlockSize, largestFrameNumber, largestSampleNumber, sizeCode, sizeBits, assignment, channelCount, bitsCode}
 use Rattle.rfc9639.specs.Stereo.{pairwise}
 use Rattle.rfc9639.specs.Frame.{padding}
-use Rattle.rfc9639.specs.Coding.{counting, subframeBits}
+use Rattle.rfc9639.specs.SubframeCoding.{numbersFrom, subframeBits}
 
 -- ---- the header
 
@@ -61,7 +61,7 @@ laneOf SideRight c = if eqb c 0 then Side else Channel 1
 laneOf MidSide c = if eqb c 0 then Mid else Side
 
 unfoldable pub lanes : ChannelAssignment → List Lane
-lanes a = map (laneOf a) (counting 0 (channelCount a))
+lanes a = map (laneOf a) (numbersFrom 0 (channelCount a))
 
 -- section 4.2: a side channel is one bit wider
 unfoldable pub laneWidth : ℕ → Lane → ℕ
@@ -77,13 +77,13 @@ unfoldable pub sideOf : ℤ → ℤ → ℤ
 sideOf left right = left -ℤ right
 
 -- channel c of samples that are stored channel after channel, n for each
-unfoldable pub channel : ℕ → List ℤ → ℕ → List ℤ
-channel n xs c = take n (drop (c * n) xs)
+unfoldable pub channelSamples : ℕ → List ℤ → ℕ → List ℤ
+channelSamples n xs c = take n (drop (c * n) xs)
 
 unfoldable pub stored : ℕ → List ℤ → Lane → List ℤ
-stored n xs (Channel c) = channel n xs c
-stored n xs Mid = pairwise midOf (channel n xs 0) (channel n xs 1)
-stored n xs Side = pairwise sideOf (channel n xs 0) (channel n xs 1)
+stored n xs (Channel c) = channelSamples n xs c
+stored n xs Mid = pairwise midOf (channelSamples n xs 0) (channelSamples n xs 1)
+stored n xs Side = pairwise sideOf (channelSamples n xs 0) (channelSamples n xs 1)
 
 -- ---- the frame
 
@@ -94,15 +94,15 @@ unfoldable pub subframesBits : FrameSetting → List ℤ → List ℕ
 subframesBits set xs = row (laneBits (set .bits) (set .size) xs) (lanes (assignment (set .channels)))
 
 -- with zeros up to a whole byte
-unfoldable pub padded : List ℕ → List ℕ
-padded s = s ++ replicate (padding (length s)) 0
+unfoldable pub paddedToByte : List ℕ → List ℕ
+paddedToByte s = s ++ replicate (padding (length s)) 0
 
 -- Section 9.3: the check sum of all bytes before it.
 unfoldable pub footed : List ℕ → List ℕ
 footed s = s ++ bitsOf 16 (crc16 s)
 
 unfoldable pub frameBits : FrameSetting → List ℤ → List ℕ
-frameBits set xs = footed (padded (headerBits set ++ subframesBits set xs))
+frameBits set xs = footed (paddedToByte (headerBits set ++ subframesBits set xs))
 
 -- the bytes of the frame
 unfoldable pub frameBytes : FrameSetting → List ℤ → List ℕ

@@ -2,14 +2,14 @@
 // little-endian records. 01: consumed (4), first sample number (8), channels (1), bits (1), block size (2). 02, for
 // each sample in the buffer's order: the sample (4). 03: the number of the refusal (1), which ends the run.
 use frame::Accepted;
-use frame::Answer;
+use frame::ReadAnswer;
 use libc::STDIN_FILENO;
 use libc::STDOUT_FILENO;
 ghost use Prim.Native.Nat.{_*_, _≤_};
 ghost use lib.ListN.{length};
 
 fn write_report(f: Accepted) {
-    let bytes = records::report(
+    let bytes = probe_records::report(
         1,
         f.consumed as u64,
         f.first,
@@ -27,7 +27,7 @@ fn write_samples(samples: &[i32], n: usize)
     let mut out = [2u8; 40960];
     let mut i = 0;
     while i < n {
-        let b = records::sample(samples[i]);
+        let b = probe_records::sample(samples[i]);
         out[5 * i + 1] = b[0];
         out[5 * i + 2] = b[1];
         out[5 * i + 3] = b[2];
@@ -45,12 +45,12 @@ fn step(bytes: &[u8], place: usize, samples: &mut [i32]) -> usize
     let next = walk::read_next(bytes, place, samples);
     let answer = next.answer;
     match answer {
-        Answer::Frame(f) => {
+        ReadAnswer::Frame(f) => {
             write_report(f);
             write_samples(samples, f.channels * f.size);
             next.place
         }
-        Answer::Refused(e) => {
+        ReadAnswer::Refused(e) => {
             io::write_all(STDOUT_FILENO, &[3, error::number_of(e)]);
             place
         }

@@ -1,4 +1,4 @@
 -- Laws for callers: sign extension and the low bits at each width, and numbers by their sign.
-pub mod Extending
-pub mod Signs
+pub mod SignExtension
+pub mod SignCases
 pub mod Outcome

@@ -2,7 +2,7 @@
 use Prim.Native.Nat.{ℕ}
 use lib.Dec.{leb}
 use lib.IntN.{ℤ, pos}
-use Rattle.reading.specs.Reading.{if_then_else_}
+use Rattle.reading.specs.Readers.{if_then_else_}
 use Rattle.rfc9639.specs.Integers.{low, wrapped}
 
 -- the low w bits of v, as a signed number

@@ -1,12 +1,12 @@
 -- Laws for the proofs of this crate, and that `decode` has one outcome.
-pub mod Lending
-pub mod Filling
-pub mod Sampling
+pub mod SliceParts
+pub mod FilledSlices
+pub mod SampleReaders
 pub mod Partitions
-pub mod Residuals
-pub mod PredictSums
-pub mod Predicting
-pub mod Heads
-pub mod Behind
-pub mod Channels
+pub mod ResidualShapes
+pub mod PredictionSums
+pub mod PredictionInPlace
+pub mod HeaderFields
+pub mod HeaderBounds
+pub mod DecodedSubframes
 pub mod Outcome

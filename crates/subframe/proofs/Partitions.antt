@@ -12,22 +12,22 @@ use lib.ListN.{length, take, replicate}
 use lib.Pow.{pow-mono, pow-add}
 use lib.Seq.{take-all}
 use Rattle.reading.specs.declared.Place.{Place}
-use Rattle.reading.specs.Reading.{Ask, bits, many, each}
+use Rattle.reading.specs.Readers.{Ask, bits, many, each}
 use Rattle.reading.specs.Places.{At, gotAt, refusedAt, shortAt, runAt}
-use Rattle.reading.proofs.Running.{In, stays-in, runAt-stop, bind-got, bind-short, bits-below, behind, behind-nil, each-step, each-end}
+use Rattle.reading.proofs.ByteRuns.{In, stays-in, runAt-stop, bind-got, bind-short, bits-below, prepended, prepended-nil, each-step, each-end}
 use Rattle.input.specs.declared.Bits.{Bits}
 use Rattle.input.specs.declared.Bits.the-variants.{Value, Short}
 use Rattle.input.specs.Answers as Input
 use Rattle.input.specs.Answers.{low64}
-use Rattle.input.proofs.Laws.{read-got, read-short}
+use Rattle.input.proofs.Callers.{read-got, read-short}
 use Rattle.error.specs.declared.Refusal.{Refusal}
 use Rattle.error.specs.Numbers.{refusedBy}
-use Rattle.rfc9639.specs.Residual.{rice, coded, partition}
+use Rattle.rfc9639.specs.Residual.{rice, codedResiduals, partition}
 use Rattle.subframe.specs.declared.Decoded.{Decoded}
 use Rattle.subframe.specs.declared.Decoded.the-variants.{Done, Refused}
-use Rattle.subframe.specs.Answers.{means}
-use Rattle.error.proofs.Passing.{bind-refusal}
-use Rattle.subframe.proofs.Lending.{done-is, refused-is, behind-refusal, behind-means, part-size, part-taken}
+use Rattle.subframe.specs.Answers.{samplesAt}
+use Rattle.error.proofs.Refusals.{bind-refusal}
+use Rattle.subframe.proofs.SliceParts.{done-is, refused-is, prepended-refusal, prepended-samplesAt, part-size, part-taken}
 
 -- ---- a partition
 
@@ -38,10 +38,10 @@ parameter-count method h =
     let e : 16 * 2 ^ method ≡ 2 ^ (4 + method) = sym (pow-add 2 4 method) in
     ap (λ x. x % 2 ^ 64) e ∙ mod-eq-of-lt (lt-of-le-of-lt few (lit< tt))
 
-module _ (method n : ℕ) (s : List ℕ) (at : Place) (h : method < 2) {r : Bits} (says : Input.means r ≡ low64 (runAt (bits (4 + method)) s at)) where
-  pub no-parameter : r ≡ Short → shortAt ≡ runAt (partition method n) s at
+module _ (method n : ℕ) (s : List ℕ) (at : Place) (h : method < 2) {r : Bits} (says : Input.bitsAt r ≡ low64 (runAt (bits (4 + method)) s at)) where
+  pub parameter-short : r ≡ Short → shortAt ≡ runAt (partition method n) s at
   unfolding partition
-  no-parameter e = sym (bind-short (bits (4 + method)) s at (λ k. coded method k n) (read-short (4 + method) s at (omega arith) says e))
+  parameter-short e = sym (bind-short (bits (4 + method)) s at (λ k. codedResiduals method k n) (read-short (4 + method) s at (omega arith) says e))
 
   module _ {k : ℕ} {p : Place} (e : r ≡ Value k p) where
     got : runAt (bits (4 + method)) s at ≡ gotAt k p
@@ -51,18 +51,18 @@ module _ (method n : ℕ) (s : List ℕ) (at : Place) (h : method < 2) {r : Bits
     parameter-below = lt-of-lt-of-le (bits-below (4 + method) s at got) (pow-mono {i = 4 + method} {j = 5} (omega arith))
 
     pub partition-as-is : k ≡ (16 * 2 ^ method) % 2 ^ 64 - 1 → refusedAt 8 ≡ runAt (partition method n) s at
-    unfolding partition coded
+    unfolding partition codedResiduals
     partition-as-is f =
         sym
-        (bind-got (bits (4 + method)) s at (λ k. coded method k n) got
+        (bind-got (bits (4 + method)) s at (λ k. codedResiduals method k n) got
         ∙ rw (eq-eqb k (2 ^ (4 + method) - 1) (f ∙ ap (λ x. x - 1) (parameter-count method h))) (runAt-stop 8 (stays-in (bits (4 + method)) s at got)))
 
     pub partition-coded : (k ≡ (16 * 2 ^ method) % 2 ^ 64 - 1 → ⊥) → {x : At (List ℤ)} → x ≡ runAt (many n (rice k)) s p → x ≡ runAt (partition method n) s at
-    unfolding partition coded
+    unfolding partition codedResiduals
     partition-coded f g =
         g
         ∙ sym
-        (bind-got (bits (4 + method)) s at (λ k. coded method k n) got
+        (bind-got (bits (4 + method)) s at (λ k. codedResiduals method k n) got
         ∙ rw (ne-eqb k (2 ^ (4 + method) - 1) (λ d. f (d ∙ ap (λ x. x - 1) (sym (parameter-count method h))))))
 
 -- ---- the first of some parts, then the others
@@ -72,10 +72,10 @@ module _ (f : ℕ → Ask (List ℤ)) (n : ℕ) (ns : List ℕ) (s : List ℕ) (
   unfolding each
   first-refused e h = bind-refusal (f n) s at _ e h
 
-  pub first-then : {v : List ℤ} {p : Place} → runAt (f n) s at ≡ gotAt v p → (r : Decoded) (w : List ℤ) → means r w ≡ runAt (each f ns) s p
-      → means r (v ++ w) ≡ runAt (each f (n ∷ ns)) s at
+  pub first-then : {v : List ℤ} {p : Place} → runAt (f n) s at ≡ gotAt v p → (r : Decoded) (w : List ℤ) → samplesAt r w ≡ runAt (each f ns) s p
+      → samplesAt r (v ++ w) ≡ runAt (each f (n ∷ ns)) s at
   first-then {v} h r w g =
-      sym (sym (behind-nil (runAt (each f (n ∷ ns)) s at)) ∙ each-step f s [] at n ns h ∙ ap (behind v) (sym g) ∙ behind-means v r w)
+      sym (sym (prepended-nil (runAt (each f (n ∷ ns)) s at)) ∙ each-step f s [] at n ns h ∙ ap (prepended v) (sym g) ∙ prepended-samplesAt v r w)
 
 -- ---- a loop over parts of one size: `left` of them are still to be read, starting at `start`
 
@@ -83,10 +83,10 @@ pub record Parted (f : ℕ → Ask (List ℤ)) (size count : ℕ) (s : List ℕ)
   pub place : In s at
   pub long : length l ≡ length l₀
   pub sized : start + left * size ≡ length l
-  pub same : runAt (each f (replicate count size)) s at₀ ≡ behind (take start l) (runAt (each f (replicate left size)) s at)
+  pub same : runAt (each f (replicate count size)) s at₀ ≡ prepended (take start l) (runAt (each f (replicate left size)) s at)
 
 pub begin : (f : ℕ → Ask (List ℤ)) (size count : ℕ) {s : List ℕ} {at : Place} (l : List ℤ) → In s at → length l ≡ count * size → Parted f size count s at l l 0 count at
-begin f size count l h e = record { place = h; long = refl; sized = omega arith; same = sym (behind-nil _) }
+begin f size count l h e = record { place = h; long = refl; sized = omega arith; same = sym (prepended-nil _) }
 
 module _ {f : ℕ → Ask (List ℤ)} {size count : ℕ} {s : List ℕ} {at₀ : Place} {l₀ l : List ℤ} {start left : ℕ} {at : Place} (inv : Parted f size count s at₀ l₀ l start left at) where
   module _ (h : 0 < left) where
@@ -99,14 +99,14 @@ module _ {f : ℕ → Ask (List ℤ)} {size count : ℕ} {s : List ℕ} {at₀ :
     abbrev part : ℕ
     part = start + size - start
 
-    next : runAt (each f (replicate count size)) s at₀ ≡ behind (take start l) (runAt (each f (size ∷ replicate (left - 1) size)) s at)
+    next : runAt (each f (replicate count size)) s at₀ ≡ prepended (take start l) (runAt (each f (size ∷ replicate (left - 1) size)) s at)
     next =
         inv .same
-        ∙ ap (λ n. behind (take start l) (runAt (each f (replicate n size)) s at)) (let e : left ≡ suc (left - 1) = omega arith in e)
+        ∙ ap (λ n. prepended (take start l) (runAt (each f (replicate n size)) s at)) (let e : left ≡ suc (left - 1) = omega arith in e)
 
     -- the slice keeps its length
-    pub part-back : (v : List ℤ) → length v ≡ length (midOf start part l) → length (putMid start part l v) ≡ length l₀
-    part-back v kept = same-len-mid start part l v kept ∙ inv .long
+    pub part-keeps-length : (v : List ℤ) → length v ≡ length (midOf start part l) → length (putMid start part l v) ≡ length l₀
+    part-keeps-length v kept = same-len-mid start part l v kept ∙ inv .long
 
     ran : runAt (f (length (midOf start part l))) s at ≡ runAt (f size) s at
     ran =
@@ -114,30 +114,30 @@ module _ {f : ℕ → Ask (List ℤ)} {size count : ℕ} {s : List ℕ} {at₀ :
         ∙ ap (λ n. runAt (f n) s at) (let e : start + size - start ≡ size = omega arith in e)
 
     -- a turn and the way out, by what the decoder of the part answered and left
-    module _ {r : Decoded} (v : List ℤ) (says : means r v ≡ runAt (f (length (midOf start part l))) s at) where
+    module _ {r : Decoded} (v : List ℤ) (says : samplesAt r v ≡ runAt (f (length (midOf start part l))) s at) where
       pub step : {q : Place} → r ≡ Done q → length v ≡ length (midOf start part l)
           → Parted f size count s at₀ l₀ (putMid start part l v) (start + size) (left - 1) q
       step {q} e kept =
           let got = sym ran ∙ done-is v says e in
-          let back = part-back v kept in
+          let back = part-keeps-length v kept in
           record {
             place = stays-in (f size) s at got;
             long = back;
             sized = omega (arith, less, back, inv .sized, inv .long);
             same =
                 next ∙ each-step f s (take start l) at size (replicate (left - 1) size) got
-                ∙ ap (λ t. behind t (runAt (each f (replicate (left - 1) size)) s q)) (sym (part-taken start (start + size) l room v (omega arith) kept));
+                ∙ ap (λ t. prepended t (runAt (each f (replicate (left - 1) size)) s q)) (sym (part-taken start (start + size) l room v (omega arith) kept));
           }
 
       pub stops : {e : Refusal} → r ≡ Refused e → refusedBy e ≡ runAt (each f (replicate count size)) s at₀
       stops {e} d =
           sym
-          (next ∙ ap (behind (take start l)) (first-refused f size (replicate (left - 1) size) s at e (sym ran ∙ refused-is v says d)) ∙ behind-refusal (take start l) e)
+          (next ∙ ap (prepended (take start l)) (first-refused f size (replicate (left - 1) size) s at e (sym ran ∙ refused-is v says d)) ∙ prepended-refusal (take start l) e)
 
   pub end : left ≤ 0 → gotAt l at ≡ runAt (each f (replicate count size)) s at₀
   end h =
       let none : left ≡ 0 = omega arith in
       let zero-parts : left * size ≡ 0 = ap (λ n. n * size) none ∙ omega arith in
       sym
-      (inv .same ∙ ap (λ n. behind (take start l) (runAt (each f (replicate n size)) s at)) none
+      (inv .same ∙ ap (λ n. prepended (take start l) (runAt (each f (replicate n size)) s at)) none
       ∙ each-end f s (take start l) at (inv .place) ∙ ap (λ t. gotAt t at) (take-all start l (omega (arith, inv .sized, zero-parts))))

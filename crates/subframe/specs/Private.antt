@@ -4,7 +4,7 @@ use Prim.Native.Nat.{ℕ, _-_, _^_, _≤_}
 use mathlib.Core.List.{List, _++_}
 use lib.IntN.{ℤ, pos}
 use lib.ListN.{length, take, drop, replicate}
-use Rattle.reading.specs.Reading.{Ask, done, stop, _>>=_}
+use Rattle.reading.specs.Readers.{Ask, done, stop, _>>=_}
 use Rattle.reading.specs.Places.{At, gotAt, shortAt}
 use Rattle.error.specs.Numbers.{refusedBy}
 use Rattle.number.specs.Private.{Small}
@@ -13,7 +13,7 @@ use Rattle.rfc9639.specs.declared.SubframeType.the-variants.{Constant, Verbatim
 use Rattle.rfc9639.specs.declared.SubframeHeader.{SubframeHeader}
 use Rattle.rfc9639.specs.Residual.{residual}
 use Rattle.rfc9639.specs.Prediction.{predict}
-use Rattle.rfc9639.specs.Subframe.{lpcBehind}
+use Rattle.rfc9639.specs.Subframe.{lpcAfterShift}
 use Rattle.subframe.specs.declared.answers.Kind.{Kind}
 use Rattle.subframe.specs.declared.answers.SampleRead.{SampleRead}
 use Rattle.subframe.specs.declared.answers.SampleRead.the-variants.{Value, Short}
@@ -82,4 +82,4 @@ predictedBlock coefficients shift block = do
 
 -- what follows the shift, for the same block
 abbrev pub lpcBlock : ℕ → ℕ → ℕ → List ℤ → Ask (List ℤ)
-lpcBlock order precision shift block = lpcBehind order precision shift (take order block) (length block)
+lpcBlock order precision shift block = lpcAfterShift order precision shift (take order block) (length block)

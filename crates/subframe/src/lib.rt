@@ -26,9 +26,9 @@ ghost use lib.IntN.{pos};
 ghost use lib.ListN.{length};
 ghost use mathlib.Core.List.{map};
 ghost use Rattle.reading.specs.Places.{runAt};
-ghost use Rattle.rfc9639.specs.Subframe.{fixed, lpc, samples, orderOf, subframeBehind};
+ghost use Rattle.rfc9639.specs.Subframe.{fixed, lpc, samplesByType, orderOf, subframeAfterHeader};
 ghost use Rattle.rfc9639.specs.Integers.{shiftUp};
-ghost use Rattle.subframe.specs.Answers.{means, Left, decodeAt};
+ghost use Rattle.subframe.specs.Answers.{samplesAt, Left, subframeAt};
 ghost use Rattle.subframe.specs.Private.{Orderly, Predictable, predictedBlock, lpcBlock};
 
 // The place after what was decoded, or why it stopped.
@@ -39,7 +39,7 @@ pub enum Decoded {
 
 fn decode_constant(s: &[u8], at: Place, width: u32, out: &mut [i32]) -> Decoded
     requires { ⌜ width ≤ 32 ⌝ }
-    ensures { λ r. ⌜ means r (now (out .exit)) ≡ runAt (samples SubframeType.Constant width (length (now (out .entry)))) (now (s .entry)) at ⌝ }
+    ensures { λ r. ⌜ samplesAt r (now (out .exit)) ≡ runAt (samplesByType SubframeType.Constant width (length (now (out .entry)))) (now (s .entry)) at ⌝ }
 {
     let read = read_sample(s, at, width);
     let SampleRead::Value(x, p) = read else {
@@ -59,7 +59,7 @@ fn decode_predicted(
     out: &mut [i32],
 ) -> Decoded
     requires { ⌜ Predictable 32 (now coefficients) (now out) ⌝ }
-    ensures { λ r. ⌜ means r (now (out .exit)) ≡ runAt (predictedBlock (now (coefficients .entry)) shift (now (out .entry))) (now (s .entry)) at ⌝ }
+    ensures { λ r. ⌜ samplesAt r (now (out .exit)) ≡ runAt (predictedBlock (now (coefficients .entry)) shift (now (out .entry))) (now (s .entry)) at ⌝ }
 {
     let order = coefficients.len();
     let n = out.len();
@@ -74,7 +74,7 @@ fn decode_predicted(
 // RFC 9639 section 9.2.5: a fixed predictor is a linear one with known coefficients and no shift.
 fn decode_fixed(s: &[u8], at: Place, width: u32, order: usize, out: &mut [i32]) -> Decoded
     requires { ⌜ (width ≤ 32) × (order ≤ 4) × (order ≤ length (now out)) ⌝ }
-    ensures { λ r. ⌜ means r (now (out .exit)) ≡ runAt (fixed order width (length (now (out .entry)))) (now (s .entry)) at ⌝ }
+    ensures { λ r. ⌜ samplesAt r (now (out .exit)) ≡ runAt (fixed order width (length (now (out .entry)))) (now (s .entry)) at ⌝ }
 {
     let warm = decode_verbatim(s, at, width, &mut out[..order]);
     let Decoded::Done(p) = warm else {
@@ -94,7 +94,7 @@ fn decode_lpc_after_shift(
     out: &mut [i32],
 ) -> Decoded
     requires { ⌜ (precision ≤ 15) × (shift < 16) × (order ≤ 32) × (order ≤ length (now out)) ⌝ }
-    ensures { λ r. ⌜ means r (now (out .exit)) ≡ runAt (lpcBlock order precision shift (now (out .entry))) (now (s .entry)) at ⌝ }
+    ensures { λ r. ⌜ samplesAt r (now (out .exit)) ≡ runAt (lpcBlock order precision shift (now (out .entry))) (now (s .entry)) at ⌝ }
 {
     let mut coefficients = [0i32; 32];
     let read = decode_verbatim(s, at, precision, &mut coefficients[..order]);
@@ -107,7 +107,7 @@ fn decode_lpc_after_shift(
 // RFC 9639 section 9.2.6: the warm-up samples, the precision and the shift, and the rest.
 fn decode_lpc(s: &[u8], at: Place, width: u32, order: usize, out: &mut [i32]) -> Decoded
     requires { ⌜ (width ≤ 32) × (order ≤ 32) × (order ≤ length (now out)) ⌝ }
-    ensures { λ r. ⌜ means r (now (out .exit)) ≡ runAt (lpc order width (length (now (out .entry)))) (now (s .entry)) at ⌝ }
+    ensures { λ r. ⌜ samplesAt r (now (out .exit)) ≡ runAt (lpc order width (length (now (out .entry)))) (now (s .entry)) at ⌝ }
 {
     let warm = decode_verbatim(s, at, width, &mut out[..order]);
     let Decoded::Done(p) = warm else {
@@ -130,7 +130,7 @@ fn decode_lpc(s: &[u8], at: Place, width: u32, order: usize, out: &mut [i32]) ->
 // The samples of a subframe by its type, `width` bits each: the wasted bits are not stored.
 fn decode_kind(s: &[u8], at: Place, kind: SubframeType, width: u32, out: &mut [i32]) -> Decoded
     requires { ⌜ (width ≤ 32) × Orderly kind × (orderOf kind ≤ length (now out)) ⌝ }
-    ensures { λ r. ⌜ means r (now (out .exit)) ≡ runAt (samples kind width (length (now (out .entry)))) (now (s .entry)) at ⌝ }
+    ensures { λ r. ⌜ samplesAt r (now (out .exit)) ≡ runAt (samplesByType kind width (length (now (out .entry)))) (now (s .entry)) at ⌝ }
 {
     match kind {
         SubframeType::Constant => decode_constant(s, at, width, out),
@@ -160,7 +160,7 @@ fn decode_after_header(
     out: &mut [i32],
 ) -> Decoded
     requires { ⌜ (width ≤ 32) × Orderly (h .kind) × (h .wasted ≤ width) ⌝ }
-    ensures { λ r. ⌜ means r (now (out .exit)) ≡ runAt (subframeBehind (length (now (out .entry))) width h) (now (s .entry)) at ⌝ }
+    ensures { λ r. ⌜ samplesAt r (now (out .exit)) ≡ runAt (subframeAfterHeader (length (now (out .entry))) width h) (now (s .entry)) at ⌝ }
 {
     let kind = h.kind;
     let wasted = h.wasted;
@@ -180,7 +180,7 @@ fn decode_after_header(
 
 // A header and what follows it. No channel has samples of more than 32 bits, so such a width is a bad argument.
 fn decode_subframe(s: &[u8], at: Place, width: u32, out: &mut [i32]) -> Decoded
-    ensures { λ r. ⌜ means r (now (out .exit)) ≡ decodeAt width (length (now (out .entry))) (now (s .entry)) at ⌝ }
+    ensures { λ r. ⌜ samplesAt r (now (out .exit)) ≡ subframeAt width (length (now (out .entry))) (now (s .entry)) at ⌝ }
 {
     if 32 < width {
         return Decoded::Refused(Refusal::BadArgument);
@@ -194,7 +194,7 @@ fn decode_subframe(s: &[u8], at: Place, width: u32, out: &mut [i32]) -> Decoded
 
 // One channel, of as many samples as `out` has, `width` bits each. On a refusal `out` is filled with zeros.
 pub fn decode(s: &[u8], at: Place, width: u32, out: &mut [i32]) -> Decoded
-    ensures { λ r. ⌜ Left (decodeAt width (length (now (out .entry))) (now (s .entry)) at) (length (now (out .entry))) r (now (out .exit)) ⌝ }
+    ensures { λ r. ⌜ Left (subframeAt width (length (now (out .entry))) (now (s .entry)) at) (length (now (out .entry))) r (now (out .exit)) ⌝ }
 {
     let decoded = decode_subframe(s, at, width, out);
     let Decoded::Done(p) = decoded else {

@@ -9,16 +9,16 @@ ghost use mathlib.Core.Path.{_≡_};
 ghost use mathlib.Core.List.{_∷_};
 ghost use Prim.Native.Nat.{_+_, _-_, _*_, _%_, _^_, _≤_, _<_};
 ghost use lib.ListN.{length, replicate};
-ghost use Rattle.reading.specs.Reading.{many, each};
+ghost use Rattle.reading.specs.Readers.{many, each};
 ghost use Rattle.reading.specs.Places.{runAt};
-ghost use Rattle.rfc9639.specs.Integers.{sample};
+ghost use Rattle.rfc9639.specs.Integers.{signedBits};
 ghost use Rattle.rfc9639.specs.Residual.{folded as foldedOf, rice, partition, residual};
-ghost use Rattle.subframe.specs.Answers.{means};
+ghost use Rattle.subframe.specs.Answers.{samplesAt};
 ghost use Rattle.subframe.specs.Private.{sampleReadAt};
 
 pub fn read_sample(s: &[u8], at: Place, width: u32) -> SampleRead
     requires { ⌜ width ≤ 32 ⌝ }
-    ensures { λ r. ⌜ sampleReadAt r ≡ runAt (sample width) (now (s .entry)) at ⌝ }
+    ensures { λ r. ⌜ sampleReadAt r ≡ runAt (signedBits width) (now (s .entry)) at ⌝ }
 {
     let read = input::read_bits(s, at, width);
     let Bits::Value(v, p) = read else {
@@ -30,7 +30,7 @@ pub fn read_sample(s: &[u8], at: Place, width: u32) -> SampleRead
 // As many samples as `out` has (RFC 9639 section 9.2.4).
 pub fn decode_verbatim(s: &[u8], at: Place, width: u32, out: &mut [i32]) -> Decoded
     requires { ⌜ width ≤ 32 ⌝ }
-    ensures { λ r. ⌜ means r (now (out .exit)) ≡ runAt (many (length (now (out .entry))) (sample width)) (now (s .entry)) at ⌝ }
+    ensures { λ r. ⌜ samplesAt r (now (out .exit)) ≡ runAt (many (length (now (out .entry))) (signedBits width)) (now (s .entry)) at ⌝ }
 {
     if !reading::is_inside(s, at) {
         return Decoded::Refused(Refusal::CutShort);
@@ -80,7 +80,7 @@ fn read_rice(s: &[u8], at: Place, k: u32) -> SampleRead
 // As many residuals as `out` has.
 fn decode_rice(s: &[u8], at: Place, k: u32, out: &mut [i32]) -> Decoded
     requires { ⌜ k ≤ 31 ⌝ }
-    ensures { λ r. ⌜ means r (now (out .exit)) ≡ runAt (many (length (now (out .entry))) (rice k)) (now (s .entry)) at ⌝ }
+    ensures { λ r. ⌜ samplesAt r (now (out .exit)) ≡ runAt (many (length (now (out .entry))) (rice k)) (now (s .entry)) at ⌝ }
 {
     if !reading::is_inside(s, at) {
         return Decoded::Refused(Refusal::CutShort);
@@ -106,7 +106,7 @@ fn decode_rice(s: &[u8], at: Place, k: u32, out: &mut [i32]) -> Decoded
 // A partition (RFC 9639 section 9.2.7). The last parameter means residuals stored as they are, which is not supported.
 fn decode_partition(s: &[u8], at: Place, method: u32, out: &mut [i32]) -> Decoded
     requires { ⌜ method < 2 ⌝ }
-    ensures { λ r. ⌜ means r (now (out .exit)) ≡ runAt (partition method (length (now (out .entry)))) (now (s .entry)) at ⌝ }
+    ensures { λ r. ⌜ samplesAt r (now (out .exit)) ≡ runAt (partition method (length (now (out .entry)))) (now (s .entry)) at ⌝ }
 {
     let read = input::read_bits(s, at, 4 + method);
     let Bits::Value(k, p) = read else {
@@ -128,7 +128,7 @@ fn decode_equal_partitions(
     out: &mut [i32],
 ) -> Decoded
     requires { ⌜ (method < 2) × (length (now out) ≡ count * size) ⌝ }
-    ensures { λ r. ⌜ means r (now (out .exit)) ≡ runAt (each (partition method) (replicate count size)) (now (s .entry)) at ⌝ }
+    ensures { λ r. ⌜ samplesAt r (now (out .exit)) ≡ runAt (each (partition method) (replicate count size)) (now (s .entry)) at ⌝ }
 {
     if !reading::is_inside(s, at) {
         return Decoded::Refused(Refusal::CutShort);
@@ -164,7 +164,7 @@ fn decode_partitions(
     out: &mut [i32],
 ) -> Decoded
     requires { ⌜ (method < 2) × (warm ≤ size) × (length (now out) ≡ (size - warm) + count * size) ⌝ }
-    ensures { λ r. ⌜ means r (now (out .exit)) ≡ runAt (each (partition method) ((size - warm) ∷ replicate count size)) (now (s .entry)) at ⌝ }
+    ensures { λ r. ⌜ samplesAt r (now (out .exit)) ≡ runAt (each (partition method) ((size - warm) ∷ replicate count size)) (now (s .entry)) at ⌝ }
 {
     let first = size - warm;
     let read = decode_partition(s, at, method, &mut out[..first]);
@@ -177,7 +177,7 @@ fn decode_partitions(
 // The residual of a block of n samples after `warm` warm-up samples (RFC 9639 section 9.2.7).
 pub fn decode_residual(s: &[u8], at: Place, warm: usize, n: usize, out: &mut [i32]) -> Decoded
     requires { ⌜ (warm ≤ n) × (length (now out) ≡ n - warm) ⌝ }
-    ensures { λ r. ⌜ means r (now (out .exit)) ≡ runAt (residual warm n) (now (s .entry)) at ⌝ }
+    ensures { λ r. ⌜ samplesAt r (now (out .exit)) ≡ runAt (residual warm n) (now (s .entry)) at ⌝ }
 {
     let first = input::read_bits(s, at, 2);
     let Bits::Value(method, p) = first else {

@@ -1,3 +1,3 @@
 -- What the exported functions report.
-pub mod Reporting
+pub mod ReportedAnswers
 pub mod Outcome

@@ -8,8 +8,8 @@ use lib.IntN.{ℤ}
 use lib.ListN.{drop}
 use Rattle.rfc9639.specs.Read.{Outcome, read}
 use Rattle.rfc9639.specs.Write.{Written, write}
-use Rattle.bound.specs.Longest.{longestOf}
-use Rattle.block.specs.Blocks.{channelOf, sampleOf, pairOf}
+use Rattle.frame_limits.specs.Longest.{longestOf}
+use Rattle.block.specs.BlockAccess.{channelOf, sampleOf, pairOf}
 use Rattle.block.specs.Reports.{ChannelReport, SampleReport, PairReport, channelReport, sampleReport, pairReport}
 
 abbrev pub ReadFrameV1 : List ℕ → List ℤ → ℕ → ℕ → ℕ → ℕ → ℕ → ℕ → List ℤ → Type 0

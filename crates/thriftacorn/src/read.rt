@@ -1,21 +1,21 @@
 // Reading, for other languages: the frame at the start of the bytes, or the one at a place, which then moves past it.
-use frame::Answer;
+use frame::ReadAnswer;
 ghost use Rattle.thriftacorn.specs.Exports.{ReadFrameV1, ReadNextV1};
-ghost use Rattle.thriftacorn.specs.Private.{Told};
+ghost use Rattle.thriftacorn.specs.Private.{ReportedAs};
 
 // Stores what an answer reports through the references, and returns its number.
-fn tell(
-    answer: Answer,
+fn store_report(
+    answer: ReadAnswer,
     consumed: &mut usize,
     first: &mut u64,
     channels: &mut usize,
     bits: &mut u32,
     size: &mut usize,
 ) -> u8
-    ensures { λ r. ⌜ Told answer r (now (consumed .exit)) (now (first .exit)) (now (channels .exit)) (now (bits .exit)) (now (size .exit)) ⌝ }
+    ensures { λ r. ⌜ ReportedAs answer r (now (consumed .exit)) (now (first .exit)) (now (channels .exit)) (now (bits .exit)) (now (size .exit)) ⌝ }
 {
     match answer {
-        Answer::Frame(f) => {
+        ReadAnswer::Frame(f) => {
             *consumed = f.consumed;
             *first = f.first;
             *channels = f.channels;
@@ -23,7 +23,7 @@ fn tell(
             *size = f.size;
             0
         }
-        Answer::Refused(e) => {
+        ReadAnswer::Refused(e) => {
             *consumed = 0;
             *first = 0;
             *channels = 0;
@@ -49,7 +49,7 @@ pub extern "C" fn thriftacorn_read_frame_v1(
         (now (channels .exit)) (now (bits .exit)) (now (size .exit)) (now (samples .exit)) ⌝ }
 {
     let answer = frame::read_frame(bytes, samples);
-    tell(answer, consumed, first, channels, bits, size)
+    store_report(answer, consumed, first, channels, bits, size)
 }
 
 // Reads the frame at a place of the bytes, and moves the place past it. A refusal leaves the place as it was.
@@ -70,5 +70,5 @@ pub extern "C" fn thriftacorn_read_next_v1(
     let step = walk::read_next(bytes, *place, samples);
     *place = step.place;
     let next = step.answer;
-    tell(next, consumed, first, channels, bits, size)
+    store_report(next, consumed, first, channels, bits, size)
 }

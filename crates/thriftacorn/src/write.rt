@@ -15,13 +15,13 @@ pub extern "C" fn thriftacorn_write_frame_v1(
 ) -> u8
     ensures { λ r. ⌜ WriteFrameV1 channels bits blocking number size (now (samples .entry)) (now (out .entry)) r (now (length .exit)) (now (out .exit)) ⌝ }
 {
-    let answer = writer::write_frame(samples, channels, bits, blocking, number, size, out);
+    let answer = frame_writer::write_frame(samples, channels, bits, blocking, number, size, out);
     match answer {
-        writer::Answer::Frame(n) => {
+        frame_writer::WriteAnswer::Frame(n) => {
             *length = n;
             0
         }
-        writer::Answer::Refused(e) => {
+        frame_writer::WriteAnswer::Refused(e) => {
             *length = 0;
             error::number_of(e)
         }
@@ -40,5 +40,5 @@ pub extern "C" fn thriftacorn_longest_v1(
 ) -> usize
     ensures { λ r. ⌜ LongestV1 channels bits blocking number size r ⌝ }
 {
-    bound::longest(channels, bits, blocking, number, size)
+    frame_limits::longest(channels, bits, blocking, number, size)
 }

@@ -3,18 +3,18 @@ use Prim.Native.Nat.{ℕ}
 use mathlib.Core.Path.{_≡_, ap, ap₂}
 use mathlib.Core.List.{List}
 use lib.IntN.{ℤ}
-use Rattle.reading.proofs.Outcome.{OneOutcome, one}
-use Rattle.frame.specs.declared.Answer.{Answer}
+use Rattle.reading.proofs.Outcome.{OneOutcome, one-value}
+use Rattle.frame.specs.declared.ReadAnswer.{ReadAnswer}
 use Rattle.frame.proofs.Outcome.{report-tells}
 use Rattle.walk.specs.declared.Step.{Step}
 use Rattle.walk.proofs.read_next
 
 -- a step is determined by its two parts
 parts-tell : (r r′ : Step) → r .answer ≡ r′ .answer → r .place ≡ r′ .place → r ≡ r′
-parts-tell r r′ a n = ap₂ (λ (x : Answer) (y : ℕ). record { answer = x; place = y }) a n
+parts-tell r r′ a n = ap₂ (λ (x : ReadAnswer) (y : ℕ). record { answer = x; place = y }) a n
 
 pub read-next-one : OneOutcome read_next.ended read_next.Reads.Learnt
 read-next-one κs args r r′ left left′ p q = (
-  parts-tell r r′ (report-tells (r .answer) (r′ .answer) (one (p .answer .report) (q .answer .report))) (one (p .next) (q .next)),
-  ap (λ (l : List ℤ). (tt, (tt, (l, tt)))) (one (p .answer .samples) (q .answer .samples)),
+  parts-tell r r′ (report-tells (r .answer) (r′ .answer) (one-value (p .answer .report) (q .answer .report))) (one-value (p .next) (q .next)),
+  ap (λ (l : List ℤ). (tt, (tt, (l, tt)))) (one-value (p .answer .samples) (q .answer .samples)),
 )

@@ -10,86 +10,86 @@ use Rattle.error.specs.declared.Refusal.{Refusal}
 use Rattle.error.proofs.Outcome.{some-number}
 use Rattle.rfc9639.specs.Read.{Report, refusal, Result, result, read}
 use Rattle.rfc9639.specs.FrameByFrame.{Verdict, accept, undecided, refuse, verdictOf, verdict, goesOn, answers}
-use Rattle.demands.proofs.FrameByFrame.{frame-zero, Lawful, unrolled, lawful}
+use Rattle.demands.proofs.FrameByFrame.{accept-zero, Lawful, answers-unrolled, lawful}
 use Rattle.frame.specs.declared.Accepted.{Accepted}
-use Rattle.frame.specs.declared.Answer.{Answer}
+use Rattle.frame.specs.declared.ReadAnswer.{ReadAnswer}
 use Rattle.frame.specs.Reads.{reportOf, Reads}
 use Rattle.walk.specs.declared.Step.{Step}
 use Rattle.walk.specs.Steps.{Steps}
 
 -- a step that was taken: the samples lent to it, its answer and next place, and the samples afterwards
-pub record Taken : Type 0 where
+pub record StepTaken : Type 0 where
   pub lent : List ℤ
   pub step : Step
   pub left : List ℤ
 
 -- Steps from a place on, all with the same room, up to and including the first refusal.
-pub data Walk (s : List ℕ) (room : ℕ) : ℕ → List Taken → Type 0 where
-  stops : {place : ℕ} {t : Taken} (e : Refusal) → length (t .lent) ≡ room → Steps s place (t .lent) (t .step) (t .left)
-      → t .step .answer ≡ Answer.Refused e → Walk s room place (t ∷ [])
-  goes : {place : ℕ} {t : Taken} {ts : List Taken} (f : Accepted) → length (t .lent) ≡ room → Steps s place (t .lent) (t .step) (t .left)
-      → t .step .answer ≡ Answer.Frame f → Walk s room (t .step .place) ts → Walk s room place (t ∷ ts)
+pub data Walk (s : List ℕ) (room : ℕ) : ℕ → List StepTaken → Type 0 where
+  stops : {place : ℕ} {t : StepTaken} (e : Refusal) → length (t .lent) ≡ room → Steps s place (t .lent) (t .step) (t .left)
+      → t .step .answer ≡ ReadAnswer.Refused e → Walk s room place (t ∷ [])
+  goes : {place : ℕ} {t : StepTaken} {ts : List StepTaken} (f : Accepted) → length (t .lent) ≡ room → Steps s place (t .lent) (t .step) (t .left)
+      → t .step .answer ≡ ReadAnswer.Frame f → Walk s room (t .step .place) ts → Walk s room place (t ∷ ts)
 
 -- a step shows an answer of the definition: its report, and its samples at the front of what was lent
-pub record Shows (t : Taken) (q : Result) : Type 0 where
+pub record Shows (t : StepTaken) (q : Result) : Type 0 where
   pub report : reportOf (t .step .answer) ≡ q .report
   pub samples : t .left ≡ q .front ++ drop (length (q .front)) (t .lent)
 
 -- each step shows the answer at the same position of the list
-pub data Match : List Taken → List Result → Type 0 where
+pub data Match : List StepTaken → List Result → Type 0 where
   matched : Match [] []
-  matches : {t : Taken} {q : Result} {ts : List Taken} {qs : List Result} → Shows t q → Match ts qs → Match (t ∷ ts) (q ∷ qs)
+  matches : {t : StepTaken} {q : Result} {ts : List StepTaken} {qs : List Result} → Shows t q → Match ts qs → Match (t ∷ ts) (q ∷ qs)
 
 module _ (s : List ℕ) (room : ℕ) where
   abbrev one : List ℕ → Result
   one = result (record { room = room })
 
-  shows : {place : ℕ} (t : Taken) → length (t .lent) ≡ room → Steps s place (t .lent) (t .step) (t .left) → Shows t (one (drop place s))
+  shows : {place : ℕ} (t : StepTaken) → length (t .lent) ≡ room → Steps s place (t .lent) (t .step) (t .left) → Shows t (one (drop place s))
   unfolding read
   shows {place} t e h = record {
     report = h .answer .report ∙ ap (λ n. result (record { room = n }) (drop place s) .report) e;
     samples = h .answer .samples ∙ ap (λ n. result (record { room = n }) (drop place s) .front ++ drop (length (result (record { room = n }) (drop place s) .front)) (t .lent)) e;
   }
 
-  module _ (place : ℕ) {t : Taken} (w : Shows t (one (drop place s))) where
-    frame-verdict : {f : Accepted} → t .step .answer ≡ Answer.Frame f → verdict (one (drop place s)) ≡ accept
+  module _ (place : ℕ) {t : StepTaken} (w : Shows t (one (drop place s))) where
+    frame-verdict : {f : Accepted} → t .step .answer ≡ ReadAnswer.Frame f → verdict (one (drop place s)) ≡ accept
     unfolding verdictOf
     frame-verdict e = ap (λ (r : Report). verdictOf (r .number)) (sym (w .report) ∙ ap reportOf e)
 
-    ended : {e : Refusal} → t .step .answer ≡ Answer.Refused e → (l : List Result) → goesOn (verdict (one (drop place s))) l ≡ []
+    refusal-ends : {e : Refusal} → t .step .answer ≡ ReadAnswer.Refused e → (l : List Result) → goesOn (verdict (one (drop place s))) l ≡ []
     unfolding refusal goesOn
-    ended {e} is l = go (verdict (one (drop place s))) refl
+    refusal-ends {e} is l = go (verdict (one (drop place s))) refl
       where
         go : (k : Verdict) → verdict (one (drop place s)) ≡ k → goesOn k l ≡ []
         go accept z =
-            absurd (omega (arith, some-number e, frame-zero (one (drop place s) .report .number) z, ap (λ (r : Report). r .number) (sym (w .report) ∙ ap reportOf is)))
+            absurd (omega (arith, some-number e, accept-zero (one (drop place s) .report .number) z, ap (λ (r : Report). r .number) (sym (w .report) ∙ ap reportOf is)))
         go undecided z = refl
         go refuse z = refl
 
-  next-rest : (place : ℕ) {t : Taken} → length (t .lent) ≡ room → Steps s place (t .lent) (t .step) (t .left)
+  next-rest : (place : ℕ) {t : StepTaken} → length (t .lent) ≡ room → Steps s place (t .lent) (t .step) (t .left)
       → drop (one (drop place s) .report .consumed) (drop place s) ≡ drop (t .step .place) s
   unfolding read
   next-rest place {t} e h =
       drop-drop (one (drop place s) .report .consumed) place s
       ∙ ap (λ n. drop n s) (sym (h .next ∙ ap (λ n. place + result (record { room = n }) (drop place s) .report .consumed) e))
 
-  pub walk-shows : {place : ℕ} {ts : List Taken} → Walk s room place ts → Match ts (answers one (drop place s))
+  pub walk-matches : {place : ℕ} {ts : List StepTaken} → Walk s room place ts → Match ts (answers one (drop place s))
   unfolding goesOn
-  walk-shows {place} (stops {t = t} e l h is) =
+  walk-matches {place} (stops {t = t} e l h is) =
       let w = shows t l h in
-      subst (Match (t ∷ [])) (sym (unrolled (lawful (record { room = room })) (drop place s) ∙ ap (λ (x : List Result). one (drop place s) ∷ x) (ended place w is _))) (matches w matched)
-  walk-shows {place} (goes {t = t} {ts = ts} f l h is rest) =
+      subst (Match (t ∷ [])) (sym (answers-unrolled (lawful (record { room = room })) (drop place s) ∙ ap (λ (x : List Result). one (drop place s) ∷ x) (refusal-ends place w is _))) (matches w matched)
+  walk-matches {place} (goes {t = t} {ts = ts} f l h is rest) =
       let w = shows t l h in
       let list =
-      unrolled (lawful (record { room = room })) (drop place s)
+      answers-unrolled (lawful (record { room = room })) (drop place s)
       ∙ ap (λ (k : Verdict). one (drop place s) ∷ goesOn k (answers one (drop (one (drop place s) .report .consumed) (drop place s)))) (frame-verdict place w is)
       ∙ ap (λ (x : List ℕ). one (drop place s) ∷ answers one x) (next-rest place {t = t} l h) in
-      subst (Match (t ∷ ts)) (sym list) (matches w (walk-shows rest))
+      subst (Match (t ∷ ts)) (sym list) (matches w (walk-matches rest))
 
 -- Every run of steps from the first byte to the refusal that ends it shows the definition's answers to the whole input:
 -- in order, with none skipped and none read twice, whatever each lent buffer held.
-pub steps-give-answers : (s : List ℕ) (room : ℕ) {ts : List Taken} → Walk s room 0 ts → Match ts (answers (result (record { room = room })) s)
-steps-give-answers s room w = walk-shows s room w
+pub steps-give-answers : (s : List ℕ) (room : ℕ) {ts : List StepTaken} → Walk s room 0 ts → Match ts (answers (result (record { room = room })) s)
+steps-give-answers s room w = walk-matches s room w
 
 -- A window of a card: the bytes before it, those it holds, and those still to come. An answer that is decided in the
 -- window is the whole card's answer at that place.

@@ -3,9 +3,9 @@
 // samples (4 each, at most 16,384). Missing bytes before the samples count as zeros, and an incomplete last sample is
 // left out. The output is filled, then written into once. Written: the answer's number (1), the length (4), then the
 // whole output. A room above 32,768 is answered by 11, a length of 0, and no bytes.
+use frame_writer::WriteAnswer;
 use libc::STDIN_FILENO;
 use libc::STDOUT_FILENO;
-use writer::Answer;
 ghost use mathlib.Core.Path.{_≡_};
 ghost use Prim.Native.Nat.{_*_, _≤_, _+_};
 ghost use lib.ListN.{length};
@@ -21,10 +21,10 @@ fn write_head(number: u8, length: u64) {
     io::write_all(STDOUT_FILENO, &head);
 }
 
-fn write_answer(answer: Answer) {
+fn write_answer(answer: WriteAnswer) {
     match answer {
-        Answer::Frame(n) => write_head(0, n as u64),
-        Answer::Refused(e) => write_head(error::number_of(e), 0),
+        WriteAnswer::Frame(n) => write_head(0, n as u64),
+        WriteAnswer::Refused(e) => write_head(error::number_of(e), 0),
     }
 }
 
@@ -41,7 +41,7 @@ fn decode(bytes: &[u8], samples: &mut [i32])
 {
     let mut i = 0;
     while i < samples.len() {
-        samples[i] = records::sample_of(
+        samples[i] = probe_records::sample_of(
             bytes[4 * i],
             bytes[4 * i + 1],
             bytes[4 * i + 2],
@@ -55,8 +55,8 @@ fn decode(bytes: &[u8], samples: &mut [i32])
 fn number_of(input: &[u8]) -> u64
     requires { ⌜ length (now input) ≡ 65556 ⌝ }
 {
-    let low = records::number_of(input[3], input[4], input[5], input[6]);
-    let high = records::number_of(input[7], input[8], input[9], input[10]);
+    let low = probe_records::number_of(input[3], input[4], input[5], input[6]);
+    let high = probe_records::number_of(input[7], input[8], input[9], input[10]);
     high % 0x1_0000_0000 * 0x1_0000_0000 + low % 0x1_0000_0000
 }
 
@@ -71,8 +71,8 @@ fn count_of(n: usize) -> usize
 fn run(input: &[u8], n: usize, samples: &mut [i32], out: &mut [u8])
     requires { ⌜ (length (now input) ≡ 65556) × (n ≤ 65556) × (length (now samples) ≡ 16384) × (length (now out) ≡ 32768) ⌝ }
 {
-    let size = records::number_of(input[11], input[12], input[13], input[14]) as usize;
-    let room = records::number_of(input[15], input[16], input[17], input[18]) as usize;
+    let size = probe_records::number_of(input[11], input[12], input[13], input[14]) as usize;
+    let room = probe_records::number_of(input[15], input[16], input[17], input[18]) as usize;
     if out.len() < room {
         write_head(11, 0);
         return;
@@ -80,7 +80,7 @@ fn run(input: &[u8], n: usize, samples: &mut [i32], out: &mut [u8])
     let count = count_of(n);
     fill(&mut out[..room], input[19]);
     decode(&input[20..], &mut samples[..count]);
-    let answer = writer::write_frame(
+    let answer = frame_writer::write_frame(
         &samples[..count],
         input[0] as u32,
         input[1] as u32,

@@ -10,10 +10,10 @@ use thriftacorn::Frame;
 const WHOLE: [u8; 15] = [0xFF, 0xF8, 0x69, 0x18, 0x00, 0x00, 0xBF, 0x03, 0x58, 0xFD, 0x03, 0x12, 0x8B, 0xAA, 0x9A];
 
 /// A report's values: consumed, first sample, channels, bits, block size.
-type Told = (usize, Option<u64>, usize, u32, usize);
+type Values = (usize, Option<u64>, usize, u32, usize);
 
-const WHOLE_TOLD: Told = (15, Some(0), 2, 16, 1);
+const WHOLE_VALUES: Values = (15, Some(0), 2, 16, 1);
 
-fn told(frame: Frame) -> Told {
+fn values(frame: Frame) -> Values {
     (frame.consumed, frame.first_sample, frame.channels, frame.bits, frame.block_size)
 }

@@ -1,11 +1,11 @@
 //! What each refusal asks of the caller, and an input on which a caller who ignores that finds a frame inside the
 //! sound.
-use crate::{told, Told, WHOLE, WHOLE_TOLD};
+use crate::{values, Values, WHOLE, WHOLE_VALUES};
 use thriftacorn::{read_frame, write_frame, Frames, Need, Refusal, WriteSettings};
 
 /// The place of RFC 9639's first frame inside the sound.
 const INSIDE: usize = 107;
-const HOLDING_TOLD: Told = (201, Some(0), 1, 8, 191);
+const HOLDING_VALUES: Values = (201, Some(0), 1, 8, 191);
 
 /// One channel, 8 bits, 191 verbatim samples, block size code 6. Fifteen of the samples are the bytes of `WHOLE`, with
 /// both its check sums. It is the stored case `frame-in-sound` of cases/runner.txt.
@@ -18,9 +18,9 @@ fn holding() -> Vec<u8> {
 }
 
 /// The first place after the start at which a frame is read.
-fn hunt(bytes: &[u8]) -> Option<(usize, Told)> {
+fn hunt(bytes: &[u8]) -> Option<(usize, Values)> {
     let mut samples = [0; 256];
-    (1..bytes.len()).find_map(|place| Some((place, told(read_frame(&bytes[place..], &mut samples).ok()?))))
+    (1..bytes.len()).find_map(|place| Some((place, values(read_frame(&bytes[place..], &mut samples).ok()?))))
 }
 
 #[test]
@@ -49,8 +49,8 @@ fn half_a_frame_waits_though_a_frame_stands_inside_it() {
         assert_eq!(refusal, if length == 0 { Refusal::NothingLeft } else { Refusal::CutShort });
     }
     assert_eq!(hunt(&frame[..INSIDE + 14]), None);
-    assert_eq!(hunt(&frame[..161]), Some((INSIDE, WHOLE_TOLD)));
-    assert_eq!(read_frame(&frame, &mut samples).map(told), Ok(HOLDING_TOLD));
+    assert_eq!(hunt(&frame[..161]), Some((INSIDE, WHOLE_VALUES)));
+    assert_eq!(read_frame(&frame, &mut samples).map(values), Ok(HOLDING_VALUES));
     let sound: Vec<i32> = frame[8..199].iter().map(|&byte| i32::from(byte as i8)).collect();
     assert_eq!(samples[..191], sound[..]);
 }
@@ -65,14 +65,14 @@ fn the_writer_writes_that_frame() {
 }
 
 /// Reads an input that arrives in pieces of this length, going by `needs` alone.
-fn in_pieces(input: &[u8], length: usize) -> (Vec<Told>, Refusal) {
+fn in_pieces(input: &[u8], length: usize) -> (Vec<Values>, Refusal) {
     let mut pieces = input.chunks(length);
     let (mut window, mut list, mut samples) = (Vec::new(), Vec::new(), [0; 256]);
     loop {
         let mut frames = Frames::new(&window);
         let refusal = loop {
             match frames.read(&mut samples) {
-                Ok(frame) => list.push(told(frame)),
+                Ok(frame) => list.push(values(frame)),
                 Err(refusal) => break refusal,
             }
         };
@@ -87,7 +87,7 @@ fn in_pieces(input: &[u8], length: usize) -> (Vec<Told>, Refusal) {
 #[test]
 fn however_an_input_is_cut_its_frames_are_the_same() {
     let row = [&WHOLE[..], &holding(), &WHOLE, &WHOLE[..14]].concat();
-    let frames = vec![WHOLE_TOLD, HOLDING_TOLD, WHOLE_TOLD];
+    let frames = vec![WHOLE_VALUES, HOLDING_VALUES, WHOLE_VALUES];
     for length in 1..=row.len() {
         assert_eq!(in_pieces(&row, length), (frames.clone(), Refusal::CutShort), "pieces of {length}");
     }
@@ -98,7 +98,7 @@ fn more_bytes_and_more_room_do_as_needs_says() {
     let mut samples = [0; 256];
     let longer = [&WHOLE[..], &[0xFF; 40]].concat();
     assert_eq!(read_frame(&longer, &mut samples[..1]), Err(Refusal::NoRoom));
-    assert_eq!(read_frame(&longer, &mut samples[..2]).map(told), Ok(WHOLE_TOLD));
+    assert_eq!(read_frame(&longer, &mut samples[..2]).map(values), Ok(WHOLE_VALUES));
     for place in 0..WHOLE.len() {
         let mut changed = longer.clone();
         changed[place] ^= 0x10;

@@ -1,11 +1,11 @@
 //! The reader's answers through the binding, with what the buffer holds after each.
-use crate::{told, Told, WHOLE, WHOLE_TOLD};
+use crate::{values, Values, WHOLE, WHOLE_VALUES};
 use thriftacorn::{read_frame, Frames, Refusal, ROOM};
 
 /// What a read answers, and what it leaves of four samples that each held 7.
-fn read(bytes: &[u8]) -> (Result<Told, Refusal>, [i32; 4]) {
+fn read(bytes: &[u8]) -> (Result<Values, Refusal>, [i32; 4]) {
     let mut samples = [7; 4];
-    (read_frame(bytes, &mut samples).map(told), samples)
+    (read_frame(bytes, &mut samples).map(values), samples)
 }
 
 fn bytes(hex: &str) -> Vec<u8> {
@@ -14,10 +14,10 @@ fn bytes(hex: &str) -> Vec<u8> {
 
 #[test]
 fn whole_case() {
-    assert_eq!(read(&WHOLE), (Ok(WHOLE_TOLD), [25588, 10416, 7, 7]));
+    assert_eq!(read(&WHOLE), (Ok(WHOLE_VALUES), [25588, 10416, 7, 7]));
     let mut followed = WHOLE.to_vec();
     followed.extend([0, 1]);
-    assert_eq!(read(&followed), (Ok(WHOLE_TOLD), [25588, 10416, 7, 7]));
+    assert_eq!(read(&followed), (Ok(WHOLE_VALUES), [25588, 10416, 7, 7]));
 }
 
 #[test]
@@ -57,7 +57,7 @@ fn room_is_needed_for_every_sample() {
         assert_eq!(samples, vec![7; room]);
     }
     let mut samples = [7; 2];
-    assert_eq!(read_frame(&WHOLE, &mut samples).map(told), Ok(WHOLE_TOLD));
+    assert_eq!(read_frame(&WHOLE, &mut samples).map(values), Ok(WHOLE_VALUES));
     assert_eq!(samples, [25588, 10416]);
 }
 
@@ -77,7 +77,7 @@ fn frames_stop_at_the_first_refusal_and_stay_there() {
     assert_eq!(frames.read(&mut []), Err(Refusal::NoRoom));
     assert_eq!(frames.place(), 0);
     for n in 1..=2 {
-        assert_eq!(frames.read(&mut samples).map(told), Ok(WHOLE_TOLD));
+        assert_eq!(frames.read(&mut samples).map(values), Ok(WHOLE_VALUES));
         assert_eq!((frames.place(), samples), (15 * n, [25588, 10416]));
     }
     for _ in 0..2 {
@@ -90,7 +90,7 @@ fn frames_stop_at_the_first_refusal_and_stay_there() {
 fn a_final_refusal_ends_the_frames_too() {
     let row = [&WHOLE[..], b"RIFF", &WHOLE[..]].concat();
     let (mut frames, mut samples) = (Frames::new(&row), [0; 2]);
-    assert_eq!(frames.read(&mut samples).map(told), Ok(WHOLE_TOLD));
+    assert_eq!(frames.read(&mut samples).map(values), Ok(WHOLE_VALUES));
     for _ in 0..2 {
         assert_eq!((frames.read(&mut samples), frames.place()), (Err(Refusal::NotSync), 15));
     }
@@ -102,7 +102,7 @@ fn frames_end_with_nothing_left() {
     let row = [WHOLE; 100].concat();
     let (mut frames, mut samples, mut count) = (Frames::new(&row), vec![0; ROOM], 0);
     while let Ok(frame) = frames.read(&mut samples) {
-        assert_eq!((told(frame), frame.channel(&samples, 0)), (WHOLE_TOLD, Some(&[25588][..])));
+        assert_eq!((values(frame), frame.channel(&samples, 0)), (WHOLE_VALUES, Some(&[25588][..])));
         count += 1;
     }
     assert_eq!((count, frames.place()), (100, row.len()));

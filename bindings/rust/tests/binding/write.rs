@@ -1,5 +1,5 @@
 //! The writer's answers through the binding, with what the output holds after each, and that frames read back.
-use crate::told;
+use crate::values;
 use thriftacorn::{read_frame, write_frame, Blocking, Refusal, WriteSettings};
 
 const ONE: WriteSettings = WriteSettings::new(0, 16, 1);
@@ -113,7 +113,7 @@ fn reads_back(samples: &[i32], settings: &WriteSettings) {
         Blocking::Variable => settings.number,
     };
     let report = (length, Some(first_sample), settings.channels(), settings.bits, settings.block_size);
-    assert_eq!(told(frame), report);
+    assert_eq!(values(frame), report);
     assert!(again == samples, "{settings:?}");
 }
 

@@ -7,7 +7,7 @@ use lib.ListN.{length, replicate}
 use mir.Syntax.{w32}
 use mir.Val.{toZ}
 use mir.Facts.{toZ-ofZ}
-use Rattle.block.proofs.Filling.{Filled, begin, step, end}
+use Rattle.block.proofs.FilledSamples.{Filled, begin, step, end}
 use Rattle.block.proofs.fill.Statement.{statement}
 use Rattle.block.proofs.fill.Tie as tie
 

@@ -7,7 +7,7 @@ use borrow.Author.Tests.{not-true, not-false}
 use borrow.Author.Needs.{needs}
 use lib.Dec.{leb}
 use lib.ListN.{length}
-use Rattle.block.proofs.Blocks.{pair-not-two, pair-no-index, pair-no-room, pair-inside, pair-is}
+use Rattle.block.proofs.BlockAccess.{pair-not-two, pair-no-index, pair-no-room, pair-inside, pair-is}
 use Rattle.block.proofs.pair.Statement.{statement}
 use Rattle.block.proofs.pair.Tie as tie
 

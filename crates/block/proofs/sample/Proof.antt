@@ -2,7 +2,7 @@
 use native.Mathlib.Omega.{arith}
 use borrow.Author.Needs.{needs}
 use lib.ListN.{length}
-use Rattle.block.proofs.Blocks.{Ranged, channel-range, channel-refused, sample-no-index, sample-none, sample-is}
+use Rattle.block.proofs.BlockAccess.{Ranged, channel-range, channel-refused, sample-no-index, sample-none, sample-is}
 use Rattle.block.proofs.sample.Statement.{statement}
 use Rattle.block.proofs.sample.Tie as tie
 

@@ -3,7 +3,7 @@ use native.Mathlib.Omega.{arith}
 use lib.Bits.{xor-lt}
 use lib.Dec.{lit<}
 use Prim.Native.Nat.{_/_}
-use Rattle.crc.proofs.Entries.{look-up}
+use Rattle.crc.proofs.ByteTable.{look-up}
 use Rattle.crc.proofs.crc16_byte.Statement.{statement}
 use Rattle.crc.proofs.crc16_byte.Tie as tie
 

@@ -7,7 +7,7 @@ use lib.ListN.{length}
 use Rattle.rfc9639.specs.CheckSums.{crcBit, crcBits, crc8}
 use Rattle.reading.specs.Bytes.{bitsOfByte}
 use Rattle.crc.specs.Private.{sumsFrom, byteSums}
-use Rattle.crc.proofs.Summed.{Summed, begin, step, end}
+use Rattle.crc.proofs.SummedBytes.{Summed, begin, step, end}
 use Rattle.crc.proofs.crc8.Statement.{statement}
 use Rattle.crc.proofs.crc8.Tie as tie
 

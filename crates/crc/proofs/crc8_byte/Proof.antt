@@ -2,7 +2,7 @@
 use native.Mathlib.Omega.{arith}
 use lib.Bits.{xor-lt}
 use lib.Dec.{lit<}
-use Rattle.crc.proofs.Entries.{look-up-8}
+use Rattle.crc.proofs.ByteTable.{look-up-8}
 use Rattle.crc.proofs.crc8_byte.Statement.{statement}
 use Rattle.crc.proofs.crc8_byte.Tie as tie
 

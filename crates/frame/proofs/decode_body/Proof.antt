@@ -4,15 +4,15 @@ use mathlib.Core.List.{List}
 use borrow.Author.Needs.{needs}
 use lib.IntN.{ℤ, pos}
 use lib.ListN.{length, replicate}
-use Rattle.reading.specs.Reading.{each}
+use Rattle.reading.specs.Readers.{each}
 use Rattle.reading.specs.Places.{gotAt, runAt}
 use Rattle.rfc9639.specs.Header.{sampleCount}
 use Rattle.rfc9639.specs.Subframe.{subframe}
 use Rattle.rfc9639.specs.Frame.{widths}
-use Rattle.subframe.proofs.Lending.{done-is}
+use Rattle.subframe.proofs.SliceParts.{done-is}
 use Rattle.header.specs.Answers.{checkedAt}
-use Rattle.header.proofs.Stepping.{answer-is}
-use Rattle.frame.proofs.Channels.{channels-stop, footer-stops, body-done}
+use Rattle.header.proofs.ReaderSteps.{answer-is}
+use Rattle.frame.proofs.FrameBody.{channels-stop, footer-stops, body-done}
 use Rattle.frame.proofs.decode_body.Statement.{statement}
 use Rattle.frame.proofs.decode_body.Tie as tie
 

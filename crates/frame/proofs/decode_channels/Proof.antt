@@ -6,12 +6,12 @@ use borrow.Author.Needs.{needs}
 use lib.ListN.{length, getD}
 use Rattle.rfc9639.specs.Header.{sampleCount}
 use Rattle.rfc9639.specs.Frame.{widths}
-use Rattle.frame.proofs.Channels.{widths-length, width-few, Dividing, begin, room, part-back, step, stops, end}
+use Rattle.frame.proofs.FrameBody.{length-widths, width-few, PartsRead, begin, part-fits, part-back, step, stops, end}
 use Rattle.frame.proofs.decode_channels.Statement.{statement}
 use Rattle.frame.proofs.decode_channels.Tie as tie
 
 abbrev Inv-loop : tie.InvT-loop
-Inv-loop s h out₀ c n count p₀ start₀ channel₀ out p start channel = Dividing (h .size) (widths (h .channels) (h .bits)) s p₀ out₀ out start channel p
+Inv-loop s h out₀ c n count p₀ start₀ channel₀ out p start channel = PartsRead (h .size) (widths (h .channels) (h .bits)) s p₀ out₀ out start channel p
 
 abbrev μ-loop : tie.MeasureT-loop
 μ-loop s h out₀ c n count p₀ start₀ channel₀ out p start channel = count - channel
@@ -19,7 +19,7 @@ abbrev μ-loop : tie.MeasureT-loop
 -- as many widths as channels
 counted : (c : tie.After-channel-count Inv-loop μ-loop)
     → length (widths (c .before .before .args .h .channels) (c .before .before .args .h .bits)) ≡ c .channel-count .result
-counted c = widths-length (c .before .before .args .h .channels) (c .before .before .args .h .bits) ∙ sym (c .channel-count .ensures)
+counted c = length-widths (c .before .before .args .h .channels) (c .before .before .args .h .bits) ∙ sym (c .channel-count .ensures)
 
 -- each turn has a width
 wide : (c : tie.In-loop Inv-loop μ-loop)
@@ -39,16 +39,16 @@ loop-holds : tie.Need-loop-holds Inv-loop μ-loop
 unfolding sampleCount
 loop-holds c =
     let h = c .before .before .args .h in
-    begin _ _ _ (c .before .before .pre .2 ∙ ap (λ m. m * h .size) (sym (widths-length (h .channels) (h .bits))))
+    begin _ _ _ (c .before .before .pre .2 ∙ ap (λ m. m * h .size) (sym (length-widths (h .channels) (h .bits))))
 
 add-end : tie.Need-add-end Inv-loop μ-loop
-add-end c = omega (arith, room (c .before .loop .inv) (wide c))
+add-end c = omega (arith, part-fits (c .before .loop .inv) (wide c))
 
 width-of-requires : tie.Need-width-of-requires Inv-loop μ-loop
 width-of-requires c κs = (c .before .before .before .before .pre .1, omega (arith, c .before .before .channel-count .ensures))
 
 mul-decode : tie.Need-mul-decode Inv-loop μ-loop
-mul-decode c = omega (arith, room (c .before .before .loop .inv) (wide (c .before)))
+mul-decode c = omega (arith, part-fits (c .before .before .loop .inv) (wide (c .before)))
 
 sub-decode : tie.Need-sub-decode Inv-loop μ-loop
 sub-decode c = omega arith
@@ -57,7 +57,7 @@ part-decode-start : tie.Need-part-decode-start Inv-loop μ-loop
 part-decode-start c = omega arith
 
 part-decode-end : tie.Need-part-decode-end Inv-loop μ-loop
-part-decode-end c = room (c .before .before .loop .inv) (wide (c .before))
+part-decode-end c = part-fits (c .before .before .loop .inv) (wide (c .before))
 
 decode-requires : tie.Need-decode-requires Inv-loop μ-loop
 decode-requires c κs = search needs

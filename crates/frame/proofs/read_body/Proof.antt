@@ -11,11 +11,11 @@ use lib.Seq.{length-take-le}
 use Rattle.reading.specs.Places.{gotAt, placeOf, runAt}
 use Rattle.rfc9639.specs.Header.{header, sampleCount}
 use Rattle.rfc9639.specs.Frame.{body}
-use Rattle.demands.proofs.Frames.{Sound}
-use Rattle.input.proofs.Laws.{bit-is}
+use Rattle.demands.proofs.Headers.{Sound}
+use Rattle.input.proofs.Callers.{bit-is}
 use Rattle.subframe.specs.Answers.{Left}
-use Rattle.header.proofs.Heading.{header-sound}
-use Rattle.frame.proofs.Answering.{no-bits, no-room, no-first-bit, body-read, body-refused}
+use Rattle.header.proofs.HeaderParts.{header-sound}
+use Rattle.frame.proofs.AnswerCases.{no-bits, no-room, no-first-bit, body-read, body-refused}
 use Rattle.frame.proofs.read_body.Statement.{statement}
 use Rattle.frame.proofs.read_body.Tie as tie
 

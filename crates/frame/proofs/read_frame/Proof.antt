@@ -1,11 +1,11 @@
 -- The whole frame: an empty input, no header, or a header and what follows it. Assumes nothing.
 use mathlib.Core.Path.{ap, sym, _∙_}
 use borrow.Author.Needs.{needs}
-use Rattle.header.specs.Answers.{headed}
+use Rattle.header.specs.Answers.{headerAt}
 use Rattle.error.specs.Numbers.{refusedBy}
-use Rattle.header.proofs.Stepping.{answer-is}
+use Rattle.header.proofs.ReaderSteps.{answer-is}
 use Rattle.frame.specs.Private.{headerRefusal}
-use Rattle.frame.proofs.Answering.{nothing-left, header-stops}
+use Rattle.frame.proofs.AnswerCases.{nothing-left, header-stops}
 use Rattle.frame.proofs.read_frame.Statement.{statement}
 use Rattle.frame.proofs.read_frame.Tie as tie
 
@@ -28,10 +28,10 @@ returns-2 : tie.Need-returns-2
 returns-2 c =
     let r = c .before .before .before in let e = c .before .enum-told .given .1 in
     header-stops _ _ (r .before .if1 .left) (c .header-refusal .result)
-    (answer-is headed (r .read-header .ensures) e ∙ ap refusedBy (sym (c .header-refusal .ensures ∙ ap headerRefusal e)))
+    (answer-is headerAt (r .read-header .ensures) e ∙ ap refusedBy (sym (c .header-refusal .ensures ∙ ap headerRefusal e)))
 
 read-body-requires : tie.Need-read-body-requires
-read-body-requires c κs = let g = c .before .before in sym (answer-is headed (g .before .before .read-header .ensures) (g .read .given .1))
+read-body-requires c κs = let g = c .before .before in sym (answer-is headerAt (g .before .before .read-header .ensures) (g .read .given .1))
 
 same-length : tie.Need-same-length
 same-length c = search needs

@@ -7,7 +7,7 @@ use lib.ListN.{getD, getD-replicate}
 use Rattle.rfc9639.specs.declared.ChannelAssignment.{ChannelAssignment}
 use Rattle.rfc9639.specs.HeaderCodes.{channelCount}
 use Rattle.rfc9639.specs.Frame.{widths}
-use Rattle.frame.proofs.Channels.{up, down}
+use Rattle.frame.proofs.FrameBody.{second-wider, first-wider}
 use Rattle.frame.proofs.width_of.Statement.{statement}
 use Rattle.frame.proofs.width_of.Tie as tie
 
@@ -64,15 +64,15 @@ returns c = let k = c .before .before in let e = c .enum-told .given .1 in width
 
 returns-2 : tie.Need-returns-2
 unfolding widths channelCount
-returns-2 c = let k = c .before .before in let e = c .enum-told2 .given .1 in width-is k e (up _ _ (below k e))
+returns-2 c = let k = c .before .before in let e = c .enum-told2 .given .1 in width-is k e (second-wider _ _ (below k e))
 
 returns-3 : tie.Need-returns-3
 unfolding widths channelCount
-returns-3 c = let k = c .before .before in let e = c .enum-told3 .given .1 in width-is k e (down _ _ (below k e))
+returns-3 c = let k = c .before .before in let e = c .enum-told3 .given .1 in width-is k e (first-wider _ _ (below k e))
 
 returns-4 : tie.Need-returns-4
 unfolding widths channelCount
-returns-4 c = let k = c .before .before in let e = c .enum-told4 .given .1 in width-is k e (up _ _ (below k e))
+returns-4 c = let k = c .before .before in let e = c .enum-told4 .given .1 in width-is k e (second-wider _ _ (below k e))
 
 pub width-of-spec : {M : Type 1} → statement M
 width-of-spec =

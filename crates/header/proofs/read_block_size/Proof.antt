@@ -4,12 +4,12 @@ use borrow.Author.Tests.{not-true, not-false, lt-ltb, le-ltb}
 use native.Mathlib.Omega.{arith}
 use mathlib.Core.Path.{_≡_, sym}
 use lib.Dec.{ltb}
-use Rattle.reading.specs.Reading.{bits}
+use Rattle.reading.specs.Readers.{bits}
 use Rattle.reading.specs.Places.{gotAt, runAt}
-use Rattle.reading.proofs.Running.{In, inside-in, runAt-out, runAt-done, bind-short, bits-below}
-use Rattle.input.proofs.Laws.{read-got, read-short}
-use Rattle.header.proofs.Stepping.{then-done, check-fails, check-done}
-use Rattle.header.proofs.Heading.{size-first, size-low, size-8, size-16, size-high}
+use Rattle.reading.proofs.ByteRuns.{In, inside-in, runAt-out, runAt-done, bind-short, bits-below}
+use Rattle.input.proofs.Callers.{read-got, read-short}
+use Rattle.header.proofs.ReaderSteps.{then-done, check-fails, check-done}
+use Rattle.header.proofs.HeaderParts.{size-first, size-low, size-8, size-16, size-high}
 use Rattle.header.proofs.read_block_size.Statement.{statement}
 use Rattle.header.proofs.read_block_size.Tie as tie
 
@@ -19,7 +19,7 @@ is-inside-requires c κs = search needs
 returns : tie.Need-returns
 returns c = sym (runAt-out _ _ _ (cc (not-true (c .before .is-inside .result) (c .if1 .taken))))
 
--- behind the first test the place is one of the input
+-- after the first test the place is inside the input
 here : (c : tie.Else1) → In (c .before .before .before .args .s .now) (c .before .before .before .args .at)
 here c = inside-in _ _ (cc (not-false (c .before .is-inside .result) (c .if1 .left)))
 

@@ -4,16 +4,16 @@ use borrow.Author.Needs.{needs}
 use borrow.Author.Tests.{le-leb, lt-leb}
 use native.Mathlib.Omega.{arith}
 use mathlib.Core.Path.{_≡_, sym, ap, subst, _∙_}
-use Rattle.reading.specs.Reading.{bits}
+use Rattle.reading.specs.Readers.{bits}
 use Rattle.reading.specs.Places.{gotAt, runAt}
-use Rattle.reading.proofs.Running.{bind-short}
-use Rattle.reading.proofs.Holding.{Meets, holds-at}
-use Rattle.input.proofs.Laws.{read-got, read-short}
+use Rattle.reading.proofs.ByteRuns.{bind-short}
+use Rattle.reading.proofs.Postconditions.{Meets, holds-at}
+use Rattle.input.proofs.Callers.{read-got, read-short}
 use Rattle.rfc9639.specs.Header.{depthAndZero, channelsAndBits}
-use Rattle.demands.proofs.Frames.{Early, zero-holds}
+use Rattle.demands.proofs.Headers.{Early, depthAndZero-holds}
 use Rattle.header.specs.Private.{numberAt}
-use Rattle.error.proofs.Passing.{bind-refusal}
-use Rattle.header.proofs.Stepping.{then-done, check-fails, check-holds}
+use Rattle.error.proofs.Refusals.{bind-refusal}
+use Rattle.header.proofs.ReaderSteps.{then-done, check-fails, check-holds}
 use Rattle.header.proofs.read_channels_and_depth.Statement.{statement}
 use Rattle.header.proofs.read_channels_and_depth.Tie as tie
 
@@ -52,7 +52,7 @@ depth-is : (c : tie.After-depth) → runAt depthAndZero (c .before .before .befo
 depth-is c = sym (c .before .before .read-depth .ensures) ∙ ap numberAt (c .depth .given .1)
 
 depth-few : (c : tie.After-depth) → c .depth .given .0 .0 ≤ 24
-depth-few c = subst (Meets Early (λ d. d ≤ 24)) (depth-is c) (holds-at Early _ _ _ zero-holds)
+depth-few c = subst (Meets Early (λ d. d ≤ 24)) (depth-is c) (holds-at Early _ _ _ depthAndZero-holds)
 
 cast-t15 : tie.Need-cast-t15
 cast-t15 c = omega (arith, depth-few (c .before .before))

@@ -2,11 +2,11 @@
 use borrow.Author.Needs.{needs}
 use mathlib.Core.Path.{_≡_, sym, _∙_}
 use Rattle.reading.specs.Places.{gotAt, runAt}
-use Rattle.reading.proofs.Running.{bind-got}
+use Rattle.reading.proofs.ByteRuns.{bind-got}
 use Rattle.rfc9639.specs.Header.{sync, sizeAndRate, channelsAndBits, codes}
 use Rattle.header.specs.Private.{numberAt, sizeAndRateAt, channelsAndDepthAt}
-use Rattle.error.proofs.Passing.{bind-refusal}
-use Rattle.header.proofs.Stepping.{answer-is, then-done}
+use Rattle.error.proofs.Refusals.{bind-refusal}
+use Rattle.header.proofs.ReaderSteps.{answer-is, then-done}
 use Rattle.header.proofs.read_codes.Statement.{statement}
 use Rattle.header.proofs.read_codes.Tie as tie
 

@@ -2,15 +2,15 @@
 use borrow.Author.Needs.{needs}
 use borrow.Author.Tests.{eq-eqb, ne-eqb}
 use mathlib.Core.Path.{_≡_, sym, ap, _∙_}
-use Rattle.reading.specs.Reading.{done, bits}
+use Rattle.reading.specs.Readers.{done, bits}
 use Rattle.reading.specs.Places.{gotAt, runAt}
-use Rattle.reading.proofs.Running.{stays-in, bind-got, bind-short}
-use Rattle.input.proofs.Laws.{read-got, read-short, bit-is}
+use Rattle.reading.proofs.ByteRuns.{stays-in, bind-got, bind-short}
+use Rattle.input.proofs.Callers.{read-got, read-short, bit-is}
 use Rattle.rfc9639.specs.HeaderCodes.{bitDepth}
 use Rattle.rfc9639.specs.Header.{depthAndZero}
-use Rattle.demands.proofs.Frames.{depth-holds}
+use Rattle.demands.proofs.Headers.{depth-holds}
 use Rattle.header_codes.specs.Answers.{depthAsk}
-use Rattle.header.proofs.Stepping.{check-fails, check-done, known-done, known-stops}
+use Rattle.header.proofs.ReaderSteps.{check-fails, check-done, known-done, known-stops}
 use Rattle.header.proofs.read_depth.Statement.{statement}
 use Rattle.header.proofs.read_depth.Tie as tie
 

@@ -2,12 +2,12 @@
 use borrow.Author.Needs.{needs}
 use mathlib.Core.Path.{_≡_, sym, _∙_}
 use Rattle.reading.specs.Places.{gotAt, placeOf, runAt}
-use Rattle.reading.proofs.Running.{bind-got}
+use Rattle.reading.proofs.ByteRuns.{bind-got}
 use Rattle.rfc9639.specs.Header.{codes, header}
 use Rattle.header.specs.Private.{codesAt}
-use Rattle.error.proofs.Passing.{bind-refusal}
-use Rattle.header.proofs.Stepping.{answer-is}
-use Rattle.header.proofs.Heading.{codes-coded, codes-byte}
+use Rattle.error.proofs.Refusals.{bind-refusal}
+use Rattle.header.proofs.ReaderSteps.{answer-is}
+use Rattle.header.proofs.HeaderParts.{codes-coded, codes-aligned}
 use Rattle.header.proofs.read_header.Statement.{statement}
 use Rattle.header.proofs.read_header.Tie as tie
 
@@ -22,7 +22,7 @@ codes-are : (c : tie.After-read) → runAt codes (c .before .before .before .bef
 codes-are c = answer-is codesAt (c .before .before .read-codes .ensures) (c .read .given .1)
 
 read-header-after-codes-requires : tie.Need-read-header-after-codes-requires
-read-header-after-codes-requires c κs = let e = codes-are (c .before) in let k = codes-coded _ e in (codes-byte _ e, k .blocking, k .size)
+read-header-after-codes-requires c κs = let e = codes-are (c .before) in let k = codes-coded _ e in (codes-aligned _ e, k .blocking, k .size)
 
 enum-known-read-2 : tie.Need-enum-known-read-2
 enum-known-read-2 c = search needs

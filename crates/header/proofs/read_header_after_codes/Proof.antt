@@ -3,18 +3,18 @@ use Prim.Native.Nat.{_≤_}
 use borrow.Author.Needs.{needs}
 use native.Mathlib.Omega.{arith}
 use mathlib.Core.Path.{_≡_, sym, _∙_}
-use Rattle.reading.specs.Reading.{bits}
+use Rattle.reading.specs.Readers.{bits}
 use Rattle.reading.specs.Places.{gotAt, shortAt, runAt}
-use Rattle.reading.proofs.Running.{bind-got, bind-short}
-use Rattle.input.proofs.Laws.{read-got, read-short}
+use Rattle.reading.proofs.ByteRuns.{bind-got, bind-short}
+use Rattle.input.proofs.Callers.{read-got, read-short}
 use Rattle.rfc9639.specs.HeaderCodes.{blockSize, rateBits}
-use Rattle.rfc9639.specs.Header.{blockTime, headerSum, headerBehind}
+use Rattle.rfc9639.specs.Header.{blockTime, headerSum, headerAfterCodes}
 use Rattle.header.specs.Answers.{checkedAt}
 use Rattle.header.specs.Private.{numberAt, timeAt}
-use Rattle.error.proofs.Passing.{bind-refusal}
-use Rattle.header.proofs.Stepping.{answer-is, then-done}
-use Rattle.header.proofs.Moving.{moves-at, time-whole, size-whole, rate-whole}
-use Rattle.header.proofs.Heading.{rate-few}
+use Rattle.error.proofs.Refusals.{bind-refusal}
+use Rattle.header.proofs.ReaderSteps.{answer-is, then-done}
+use Rattle.header.proofs.ByteAlignment.{moves-at, time-whole, size-whole, rate-whole}
+use Rattle.header.proofs.HeaderParts.{rate-few}
 use Rattle.header.proofs.read_header_after_codes.Statement.{statement}
 use Rattle.header.proofs.read_header_after_codes.Tie as tie
 
@@ -85,7 +85,7 @@ module _ (c : tie.After-rate) where
   rate-byte = moves-at _ _ _ (rate-whole _) (size-byte sized) rate-is
 
 returns : tie.Need-returns
-unfolding headerBehind
+unfolding headerAfterCodes
 returns c =
     let b = c .before .before .before .before .before in
     sym (bind-got (blockTime _) _ _ _ (time-is (timed b)) ∙ bind-got (blockSize _) _ _ _ (size-is b) ∙ bind-short (bits _) _ _ _ (rate-short c))
@@ -106,7 +106,7 @@ enum-known-number-2 : tie.Need-enum-known-number-2
 enum-known-number-2 c = search needs
 
 returns-2 : tie.Need-returns-2
-unfolding headerBehind
+unfolding headerAfterCodes
 returns-2 c =
     let u = c .before in let r = u .before .before .before .before in let b = sized r in
     sym
@@ -114,7 +114,7 @@ returns-2 c =
     ∙ then-done headerSum _ _ _ (answer-is checkedAt (u .before .before .check-header-sum .ensures) (u .sum .given .1)))
 
 returns-3 : tie.Need-returns-3
-unfolding headerBehind
+unfolding headerAfterCodes
 returns-3 c =
     let u = c .before in let r = u .before .before .before .before in let b = sized r in
     sym
@@ -122,7 +122,7 @@ returns-3 c =
     ∙ bind-refusal headerSum _ _ _ (u .sum2 .given .0 .0) (answer-is checkedAt (u .before .before .check-header-sum .ensures) (u .sum2 .given .1)))
 
 returns-4 : tie.Need-returns-4
-unfolding headerBehind
+unfolding headerAfterCodes
 returns-4 c =
     let b = c .before in
     sym
@@ -130,7 +130,7 @@ returns-4 c =
     ∙ bind-refusal (blockSize _) _ _ _ (b .block2 .given .0 .0) (answer-is numberAt (b .before .before .read-block-size .ensures) (b .block2 .given .1)))
 
 returns-5 : tie.Need-returns-5
-unfolding headerBehind
+unfolding headerAfterCodes
 returns-5 c =
     let n = c .before in
     sym (bind-refusal (blockTime _) _ _ _ (n .number2 .given .0 .0) (answer-is timeAt (n .before .before .read-time .ensures) (n .number2 .given .1)))

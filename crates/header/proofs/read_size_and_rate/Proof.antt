@@ -4,12 +4,12 @@ use borrow.Author.Tests.{lt-ltb, le-ltb}
 use native.Mathlib.Omega.{arith}
 use mathlib.Core.Path.{_≡_, sym, _∙_}
 use lib.Dec.{ltb}
-use Rattle.reading.specs.Reading.{bits}
+use Rattle.reading.specs.Readers.{bits}
 use Rattle.reading.specs.Places.{gotAt, runAt}
-use Rattle.reading.proofs.Running.{bind-short, bits-below}
-use Rattle.input.proofs.Laws.{read-got, read-short}
+use Rattle.reading.proofs.ByteRuns.{bind-short, bits-below}
+use Rattle.input.proofs.Callers.{read-got, read-short}
 use Rattle.rfc9639.specs.Header.{sizeAndRate}
-use Rattle.header.proofs.Stepping.{check-fails, check-holds, check-done}
+use Rattle.header.proofs.ReaderSteps.{check-fails, check-holds, check-done}
 use Rattle.header.proofs.read_size_and_rate.Statement.{statement}
 use Rattle.header.proofs.read_size_and_rate.Tie as tie
 

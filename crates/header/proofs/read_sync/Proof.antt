@@ -2,12 +2,12 @@
 use borrow.Author.Needs.{needs}
 use borrow.Author.Tests.{eq-eqb, ne-eqb}
 use mathlib.Core.Path.{_≡_, sym}
-use Rattle.reading.specs.Reading.{bits}
+use Rattle.reading.specs.Readers.{bits}
 use Rattle.reading.specs.Places.{gotAt, runAt}
-use Rattle.reading.proofs.Running.{bind-short}
-use Rattle.input.proofs.Laws.{read-got, read-short}
+use Rattle.reading.proofs.ByteRuns.{bind-short}
+use Rattle.input.proofs.Callers.{read-got, read-short}
 use Rattle.rfc9639.specs.Header.{sync}
-use Rattle.header.proofs.Stepping.{check-fails, check-done}
+use Rattle.header.proofs.ReaderSteps.{check-fails, check-done}
 use Rattle.header.proofs.read_sync.Statement.{statement}
 use Rattle.header.proofs.read_sync.Tie as tie
 

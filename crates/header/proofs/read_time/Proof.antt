@@ -6,8 +6,8 @@ use Rattle.reading.specs.Places.{gotAt, runAt}
 use Rattle.rfc9639.specs.Number.{codedNumber}
 use Rattle.rfc9639.specs.Header.{blockTime}
 use Rattle.header.specs.Private.{numberAt}
-use Rattle.error.proofs.Passing.{bind-refusal}
-use Rattle.header.proofs.Heading.{frame-late, frame-time, sample-time}
+use Rattle.error.proofs.Refusals.{bind-refusal}
+use Rattle.header.proofs.HeaderParts.{frame-number-refused, frame-time, sample-time}
 use Rattle.header.proofs.read_time.Statement.{statement}
 use Rattle.header.proofs.read_time.Tie as tie
 
@@ -22,7 +22,7 @@ number-is : (c : tie.After-read) → runAt codedNumber (c .before .before .befor
 number-is c = sym (c .before .before .read-number .ensures) ∙ ap numberAt (c .read .given .1)
 
 returns : tie.Need-returns
-returns c = sym (frame-late _ _ _ (number-is (c .before .before .before)) (c .before .if1 .taken) (c .if2 .taken))
+returns c = sym (frame-number-refused _ _ _ (number-is (c .before .before .before)) (c .before .if1 .taken) (c .if2 .taken))
 
 returns-2 : tie.Need-returns-2
 returns-2 c = sym (frame-time _ _ _ (number-is (c .before .before .before)) (c .before .if1 .taken) (c .if2 .left))

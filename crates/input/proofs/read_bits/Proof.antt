@@ -3,10 +3,10 @@ use native.Mathlib.Omega.{arith}
 use mathlib.Core.Path.{sym}
 use borrow.Author.Needs.{needs}
 use borrow.Author.Tests.{not-true, not-false}
-use Rattle.reading.proofs.Running.{inside-in}
+use Rattle.reading.proofs.ByteRuns.{inside-in}
 use Rattle.input.specs.Answers.{low64}
-use Rattle.input.proofs.Answering.{ask-out}
-use Rattle.input.proofs.Reading.{Unread, begin, step, out, end, fits}
+use Rattle.input.proofs.MappedReplies.{ask-out}
+use Rattle.input.proofs.ReadLoops.{Unread, begin, step, out, end, fits}
 use Rattle.input.proofs.read_bits.Statement.{statement}
 use Rattle.input.proofs.read_bits.Tie as tie
 

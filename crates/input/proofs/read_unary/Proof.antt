@@ -6,10 +6,10 @@ use borrow.Author.Needs.{needs}
 use borrow.Author.Tests.{not-true, not-false}
 use lib.ListN.{length}
 use Rattle.reading.specs.Places.{position}
-use Rattle.reading.proofs.Running.{inside-in}
-use Rattle.input.specs.Answers.{counted}
-use Rattle.input.proofs.Answering.{ask-out}
-use Rattle.input.proofs.Reading.{Passed, begin-zeros, step-zeros, out-zeros, end-zeros, less, below}
+use Rattle.reading.proofs.ByteRuns.{inside-in}
+use Rattle.input.specs.Answers.{countedZeros}
+use Rattle.input.proofs.MappedReplies.{ask-out}
+use Rattle.input.proofs.ReadLoops.{Passed, begin-zeros, step-zeros, out-zeros, end-zeros, less, below}
 use Rattle.input.proofs.read_unary.Statement.{statement}
 use Rattle.input.proofs.read_unary.Tie as tie
 
@@ -23,7 +23,7 @@ is-inside-requires : tie.Need-is-inside-requires Inv-loop μ-loop
 is-inside-requires c κs = search needs
 
 returns : tie.Need-returns Inv-loop μ-loop
-unfolding counted
+unfolding countedZeros
 returns c = sym (ask-out _ _ _ _ (cc (not-true (c .before .is-inside .result) (c .if1 .taken))))
 
 loop-holds : tie.Need-loop-holds Inv-loop μ-loop

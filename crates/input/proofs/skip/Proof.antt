@@ -1,7 +1,7 @@
 -- `skip`: the place of the position m bits later. Assumes nothing.
 use borrow.Author.Needs.{needs}
 use native.Mathlib.Omega.{arith}
-use Rattle.reading.proofs.Running.{place-is}
+use Rattle.reading.proofs.ByteRuns.{place-is}
 use Rattle.input.proofs.skip.Statement.{statement}
 use Rattle.input.proofs.skip.Tie as tie
 

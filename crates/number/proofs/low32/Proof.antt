@@ -6,7 +6,7 @@ use mir.Val.{SFits, toZ, ofZ}
 use mir.Facts.{toZ-ofZ, sfits-widen}
 use Rattle.rfc9639.specs.Integers.{wrapped}
 use Rattle.rfc9639.proofs.Widths.{to-sfits, wrapped-fits}
-use Rattle.rfc9639.proofs.Machine.{up-and-down-32}
+use Rattle.rfc9639.proofs.MachineIntegers.{up-and-down-32}
 use Rattle.number.proofs.low32.Statement.{statement}
 use Rattle.number.proofs.low32.Tie as tie
 

@@ -3,7 +3,7 @@ use native.Mathlib.Omega.{arith}
 use mathlib.Core.Path.{_∙_}
 use borrow.Author.Needs.{needs}
 use Rattle.rfc9639.proofs.Widths.{of-sfits, shiftDown-sign}
-use Rattle.rfc9639.proofs.Machine.{shifted}
+use Rattle.rfc9639.proofs.MachineIntegers.{shifted}
 use Rattle.number.proofs.shift_down.Statement.{statement}
 use Rattle.number.proofs.shift_down.Tie as tie
 

@@ -3,7 +3,7 @@ use mathlib.Core.Path.{ap, _∙_}
 use borrow.Author.Needs.{needs}
 use mir.Facts.{toZ-ofZ}
 use Rattle.rfc9639.specs.Integers.{wrapped}
-use Rattle.rfc9639.proofs.Machine.{widen-fits}
+use Rattle.rfc9639.proofs.MachineIntegers.{widen-fits}
 use Rattle.number.proofs.ExactSums.{sum-fits-64, sum-exact}
 use Rattle.number.proofs.wrapping_add.Statement.{statement}
 use Rattle.number.proofs.wrapping_add.Tie as tie

@@ -1,7 +1,7 @@
 -- `is_inside`: each return is one case of the definition's test. Assumes nothing.
 use native.Mathlib.Omega.{arith}
 use mathlib.Core.Path.{sym}
-use Rattle.reading.proofs.Running.{in-inside, outside-bit, outside-end}
+use Rattle.reading.proofs.ByteRuns.{in-inside, outside-bit, outside-end}
 use Rattle.reading.proofs.is_inside.Statement.{statement}
 use Rattle.reading.proofs.is_inside.Tie as tie
 

@@ -1,6 +1,6 @@
 -- `all_bits` meets its contract, by the sign. Assumes nothing.
 use borrow.Author.Needs.{needs}
-use Rattle.signed.proofs.Signs.{low-pos, low-negsuc}
+use Rattle.signed.proofs.SignCases.{low-pos, low-negsuc}
 use Rattle.signed.proofs.all_bits.Statement.{statement}
 use Rattle.signed.proofs.all_bits.Tie as tie
 

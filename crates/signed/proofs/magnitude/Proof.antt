@@ -1,5 +1,5 @@
 -- `magnitude` meets its contract, by the sign. Assumes nothing.
-use Rattle.signed.proofs.Signs.{cast-pos, cast-pos-is, minus-fits, cast-minus, cast-minus-is}
+use Rattle.signed.proofs.SignCases.{cast-pos, cast-pos-is, complement-fits, cast-complement, cast-complement-is}
 use Rattle.signed.proofs.magnitude.Statement.{statement}
 use Rattle.signed.proofs.magnitude.Tie as tie
 
@@ -10,13 +10,13 @@ returns : tie.Need-returns
 returns c = cast-pos-is (c .before .fits .x) (c .if1 .taken)
 
 sub-result : tie.Need-sub-result
-sub-result c = minus-fits (c .before .fits .x) (c .if1 .left)
+sub-result c = complement-fits (c .before .fits .x) (c .if1 .left)
 
 cast-result-2 : tie.Need-cast-result-2
-cast-result-2 c = cast-minus (c .before .fits .x) (c .if1 .left)
+cast-result-2 c = cast-complement (c .before .fits .x) (c .if1 .left)
 
 returns-2 : tie.Need-returns-2
-returns-2 c = cast-minus-is (c .before .fits .x) (c .if1 .left)
+returns-2 c = cast-complement-is (c .before .fits .x) (c .if1 .left)
 
 pub magnitude-spec : {M : Type 1} → statement M
 magnitude-spec = tie.close (tie.spec cast-result returns sub-result cast-result-2 returns-2)

@@ -7,7 +7,7 @@ use borrow.Author.Tests.{le-ltb}
 use lib.IntN.{negsuc}
 use mir.Syntax.{w64}
 use Rattle.rfc9639.specs.Integers.{signed}
-use Rattle.rfc9639.proofs.Machine.{toZ-signed, minus-fits, minus-is}
+use Rattle.rfc9639.proofs.MachineIntegers.{toZ-signed, minus-fits, minus-is}
 use Rattle.signed.proofs.reinterpret.Statement.{statement}
 use Rattle.signed.proofs.reinterpret.Tie as tie
 

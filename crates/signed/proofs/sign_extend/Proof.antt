@@ -6,13 +6,13 @@ use borrow.Author.Needs.{needs}
 use mir.Facts.{toZ-ofZ}
 use Rattle.rfc9639.specs.Integers.{shiftDown}
 use Rattle.signed.specs.Extend.{signExtend}
-use Rattle.rfc9639.proofs.Machine.{shifted}
-use Rattle.signed.proofs.Extending.{extend-none, extend-all, extend-shifts}
+use Rattle.rfc9639.proofs.MachineIntegers.{shifted}
+use Rattle.signed.proofs.SignExtension.{extend-zero-width, extend-all, extend-shifts}
 use Rattle.signed.proofs.sign_extend.Statement.{statement}
 use Rattle.signed.proofs.sign_extend.Tie as tie
 
 returns : tie.Need-returns
-returns c = sym (ap (λ w. signExtend w (c .before .args .v)) (c .if1 .taken) ∙ extend-none (c .before .args .v))
+returns c = sym (ap (λ w. signExtend w (c .before .args .v)) (c .if1 .taken) ∙ extend-zero-width (c .before .args .v))
 
 reinterpret-requires : tie.Need-reinterpret-requires
 reinterpret-requires c κs = search needs

@@ -7,7 +7,7 @@ use borrow.Author.Tests.{eq-eqb, ne-eqb}
 use mir.Syntax.{w32}
 use mir.Facts.{toZ-pos}
 use Rattle.rfc9639.specs.Residual.{unfolded}
-use Rattle.rfc9639.proofs.Machine.{minus-fits, minus-is}
+use Rattle.rfc9639.proofs.MachineIntegers.{minus-fits, minus-is}
 use Rattle.signed.proofs.unfold.Statement.{statement}
 use Rattle.signed.proofs.unfold.Tie as tie
 

@@ -3,7 +3,7 @@ use mathlib.Core.Path.{ap, _∙_}
 use borrow.Author.Needs.{needs}
 use lib.IntN.{pos}
 use lib.ListN.{length, replicate}
-use Rattle.subframe.proofs.Channels.{left-done, left-refused}
+use Rattle.subframe.proofs.DecodedSubframes.{left-done, left-refused}
 use Rattle.subframe.proofs.decode.Statement.{statement}
 use Rattle.subframe.proofs.decode.Tie as tie
 

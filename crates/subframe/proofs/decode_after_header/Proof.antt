@@ -4,8 +4,8 @@ use mathlib.Core.Path.{sym}
 use borrow.Author.Needs.{needs}
 use borrow.Author.Tests.{not-true, not-false}
 use lib.ListN.{length}
-use Rattle.reading.proofs.Running.{In, inside-in, runAt-out}
-use Rattle.subframe.proofs.Channels.{headed-short, headed-refused, headed-done}
+use Rattle.reading.proofs.ByteRuns.{In, inside-in, runAt-out}
+use Rattle.subframe.proofs.DecodedSubframes.{order-too-high, after-header-refused, after-header-done}
 use Rattle.subframe.proofs.decode_after_header.Statement.{statement}
 use Rattle.subframe.proofs.decode_after_header.Tie as tie
 
@@ -24,7 +24,7 @@ here c = inside-in _ _ (cc (not-false (c .before .is-inside .result) (c .if1 .le
 returns-2 : tie.Need-returns-2
 returns-2 c =
     let o = c .before in let a = o .before .before .before .before .args in
-    headed-short (length (a .out .now)) (a .width) (a .h) (a .s .now) (a .at) (here (o .before)) (omega (arith, o .order-of .ensures, c .if2 .taken))
+    order-too-high (length (a .out .now)) (a .width) (a .h) (a .s .now) (a .at) (here (o .before)) (omega (arith, o .order-of .ensures, c .if2 .taken))
 
 sub-decode-kind : tie.Need-sub-decode-kind
 sub-decode-kind c = search needs
@@ -44,7 +44,7 @@ same-length c = search needs
 returns-3 : tie.Need-returns-3
 returns-3 c =
     let d = c .before .before .before in let e = d .before .before in let o = e .before in let a = o .before .before .before .before .args in
-    headed-refused (length (a .out .now)) (a .width) (a .h) (a .s .now) (a .at) (here (o .before)) (omega (arith, o .order-of .ensures, e .if2 .left))
+    after-header-refused (length (a .out .now)) (a .width) (a .h) (a .s .now) (a .at) (here (o .before)) (omega (arith, o .order-of .ensures, e .if2 .left))
     (d .decode-kind .last .1 .1 .1 .1 .0) (d .decode-kind .ensures) (c .enum-told .given .1) _
 
 shift-all-requires : tie.Need-shift-all-requires
@@ -57,7 +57,7 @@ returns-4 : tie.Need-returns-4
 returns-4 c =
     let k = c .before .before .before .before in let d = k .before .before .before in let e = d .before .before in let o = e .before in
     let a = o .before .before .before .before .args in
-    headed-done (length (a .out .now)) (a .width) (a .h) (a .s .now) (a .at) (here (o .before)) (omega (arith, o .order-of .ensures, e .if2 .left))
+    after-header-done (length (a .out .now)) (a .width) (a .h) (a .s .now) (a .at) (here (o .before)) (omega (arith, o .order-of .ensures, e .if2 .left))
     (d .decode-kind .last .1 .1 .1 .1 .0) (d .decode-kind .ensures) (k .decoded .given .1) (c .before .shift-all .ensures)
 
 pub decode-after-header-spec : {M : Type 1} → statement M

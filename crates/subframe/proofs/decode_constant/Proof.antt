@@ -3,7 +3,7 @@ use mathlib.Core.Path.{ap, _∙_}
 use borrow.Author.Needs.{needs}
 use lib.ListN.{length, replicate}
 use mir.Facts.{toZ-ofZ}
-use Rattle.subframe.proofs.Channels.{constant-short, constant-done}
+use Rattle.subframe.proofs.DecodedSubframes.{constant-short, constant-done}
 use Rattle.subframe.proofs.decode_constant.Statement.{statement}
 use Rattle.subframe.proofs.decode_constant.Tie as tie
 

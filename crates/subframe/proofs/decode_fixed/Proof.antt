@@ -7,14 +7,14 @@ use borrow.Author.Needs.{needs}
 use lib.IntN.{ℤ}
 use lib.ListN.{length, drop}
 use lib.Seq.{length-take-le}
-use Rattle.reading.specs.Reading.{Ask, _>>=_, done, many}
-use Rattle.rfc9639.specs.Integers.{sample}
+use Rattle.reading.specs.Readers.{Ask, _>>=_, done, many}
+use Rattle.rfc9639.specs.Integers.{signedBits}
 use Rattle.rfc9639.specs.Residual.{residual}
 use Rattle.rfc9639.specs.Prediction.{predict, fixedCoefficients}
 use Rattle.rfc9639.specs.Subframe.{fixed}
-use Rattle.subframe.proofs.Lending.{front-stops, front-then, first-taken, between-long}
-use Rattle.subframe.proofs.PredictSums.{fixed-row}
-use Rattle.subframe.proofs.Channels.{predictable, predicted-block}
+use Rattle.subframe.proofs.SliceParts.{front-stops, front-then, first-taken, front-replaced-length}
+use Rattle.subframe.proofs.PredictionSums.{fixed-row}
+use Rattle.subframe.proofs.DecodedSubframes.{predictable, predicted-block}
 use Rattle.subframe.proofs.decode_fixed.Statement.{statement}
 use Rattle.subframe.proofs.decode_fixed.Tie as tie
 
@@ -48,7 +48,7 @@ module _ (c : tie.After-decode-verbatim) where
   out = start .args .out .now
 
   abbrev reader : ℕ → Ask (List ℤ)
-  reader k = many k (sample (start .args .width))
+  reader k = many k (signedBits (start .args .width))
 
   abbrev rest : List ℤ → Ask (List ℤ)
   rest w = residual order (length out) >>= (λ r. done (predict (fixedCoefficients order) 0 w r))
@@ -60,7 +60,7 @@ module _ (c : tie.After-decode-verbatim) where
   block = warm ++ drop order out
 
   whole : length block ≡ length out
-  whole = between-long order out (start .pre .2) warm (c .decode-verbatim .kept .1 .1 .1 .0)
+  whole = front-replaced-length order out (start .pre .2) warm (c .decode-verbatim .kept .1 .1 .1 .0)
 
 returns : tie.Need-returns
 unfolding fixed

@@ -5,16 +5,16 @@ use borrow.Author.Needs.{needs}
 use lib.ListN.{length}
 use Rattle.reading.specs.Places.{runAt}
 use Rattle.rfc9639.specs.declared.SubframeType.{SubframeType}
-use Rattle.rfc9639.specs.Subframe.{samples, orderOf}
+use Rattle.rfc9639.specs.Subframe.{samplesByType, orderOf}
 use Rattle.subframe.specs.Private.{Orderly}
 use Rattle.subframe.proofs.decode_kind.Statement.{statement}
 use Rattle.subframe.proofs.decode_kind.Tie as tie
 
 -- of the kind that a match found
 by-kind : (c : tie.Start) {k : SubframeType} → c .args .kind ≡ k
-    → runAt (samples k (c .args .width) (length (c .args .out .now))) (c .args .s .now) (c .args .at)
-    ≡ runAt (samples (c .args .kind) (c .args .width) (length (c .args .out .now))) (c .args .s .now) (c .args .at)
-by-kind c e = ap (λ k. runAt (samples k (c .args .width) (length (c .args .out .now))) (c .args .s .now) (c .args .at)) (sym e)
+    → runAt (samplesByType k (c .args .width) (length (c .args .out .now))) (c .args .s .now) (c .args .at)
+    ≡ runAt (samplesByType (c .args .kind) (c .args .width) (length (c .args .out .now))) (c .args .s .now) (c .args .at)
+by-kind c e = ap (λ k. runAt (samplesByType k (c .args .width) (length (c .args .out .now))) (c .args .s .now) (c .args .at)) (sym e)
 
 enum-told : tie.Need-enum-told
 enum-told c = search needs
@@ -56,21 +56,21 @@ same-length-2 : tie.Need-same-length-2
 same-length-2 c = search needs
 
 returns-2 : tie.Need-returns-2
-unfolding samples
+unfolding samplesByType
 returns-2 c = let k = c .before .before .before in c .before .decode-verbatim .ensures ∙ by-kind (k .before .before .before) (k .enum-told2 .given .1)
 
 same-length-3 : tie.Need-same-length-3
 same-length-3 c = search needs
 
 returns-3 : tie.Need-returns-3
-unfolding samples
+unfolding samplesByType
 returns-3 c = let k = c .before .before .before .before in c .before .decode-fixed .ensures ∙ by-kind (k .before .before .before) (k .kind .given .1)
 
 same-length-4 : tie.Need-same-length-4
 same-length-4 c = search needs
 
 returns-4 : tie.Need-returns-4
-unfolding samples
+unfolding samplesByType
 returns-4 c = let k = c .before .before .before .before in c .before .decode-lpc .ensures ∙ by-kind (k .before .before .before) (k .kind2 .given .1)
 
 pub decode-kind-spec : {M : Type 1} → statement M

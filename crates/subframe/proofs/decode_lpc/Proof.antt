@@ -8,15 +8,15 @@ use lib.IntN.{ℤ}
 use lib.ListN.{length, drop}
 use lib.Seq.{length-take-le}
 use Rattle.reading.specs.declared.Place.{Place}
-use Rattle.reading.specs.Reading.{Ask, _>>=_, many}
+use Rattle.reading.specs.Readers.{Ask, _>>=_, many}
 use Rattle.reading.specs.Places.{runAt}
-use Rattle.reading.proofs.Running.{bind-got}
-use Rattle.error.proofs.Passing.{bind-refusal}
-use Rattle.rfc9639.specs.Integers.{sample}
-use Rattle.rfc9639.specs.Subframe.{lpc, quantization, lpcBehind}
+use Rattle.reading.proofs.ByteRuns.{bind-got}
+use Rattle.error.proofs.Refusals.{bind-refusal}
+use Rattle.rfc9639.specs.Integers.{signedBits}
+use Rattle.rfc9639.specs.Subframe.{lpc, quantization, lpcAfterShift}
 use Rattle.subframe.specs.Private.{Quantization, quantizerAt}
-use Rattle.subframe.proofs.Lending.{answer-is, front-stops, front-then, first-taken, between-long}
-use Rattle.subframe.proofs.Behind.{quantization-sound}
+use Rattle.subframe.proofs.SliceParts.{answer-is, front-stops, front-then, first-taken, front-replaced-length}
+use Rattle.subframe.proofs.HeaderBounds.{quantization-sound}
 use Rattle.subframe.proofs.decode_lpc.Statement.{statement}
 use Rattle.subframe.proofs.decode_lpc.Tie as tie
 
@@ -50,10 +50,10 @@ module _ (c : tie.After-decode-verbatim) where
   out = start .args .out .now
 
   abbrev reader : ℕ → Ask (List ℤ)
-  reader k = many k (sample (start .args .width))
+  reader k = many k (signedBits (start .args .width))
 
   abbrev quantized-then : List ℤ → Quantization → Ask (List ℤ)
-  quantized-then w q = lpcBehind order (q .0) (q .1) w (length out)
+  quantized-then w q = lpcAfterShift order (q .0) (q .1) w (length out)
 
   abbrev rest : List ℤ → Ask (List ℤ)
   rest w = quantization >>= quantized-then w
@@ -62,7 +62,7 @@ module _ (c : tie.After-decode-verbatim) where
   warm = c .decode-verbatim .last .1 .1 .1 .0
 
   whole : length (warm ++ drop order out) ≡ length out
-  whole = between-long order out (start .pre .2) warm (c .decode-verbatim .kept .1 .1 .1 .0)
+  whole = front-replaced-length order out (start .pre .2) warm (c .decode-verbatim .kept .1 .1 .1 .0)
 
 returns : tie.Need-returns
 unfolding lpc
@@ -107,7 +107,7 @@ unfolding lpc
 returns-2 c =
     let r = c .before in let k = r .before .before .before in let q = k .before .before in let v = verbatim q in let s = start v in
     r .decode-lpc-after-shift .ensures
-    ∙ ap₂ (λ (w : List ℤ) n. runAt (lpcBehind (order v) (k .quantizer .given .0 .0) (k .quantizer .given .0 .1 .0) w n) (s .args .s .now) (k .quantizer .given .0 .1 .1 .0))
+    ∙ ap₂ (λ (w : List ℤ) n. runAt (lpcAfterShift (order v) (k .quantizer .given .0 .0) (k .quantizer .given .0 .1 .0) w n) (s .args .s .now) (k .quantizer .given .0 .1 .1 .0))
     (first-taken (order v) (out v) (s .pre .2) (warm v) (v .decode-verbatim .kept .1 .1 .1 .0) (drop (order v) (out v))) (whole v)
     ∙ sym (bind-got quantization (s .args .s .now) (place q) (quantized-then v (warm v)) (answer-is quantizerAt (q .read-quantizer .ensures) (k .quantizer .given .1)))
     ∙ onward q

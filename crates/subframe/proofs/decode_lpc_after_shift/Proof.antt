@@ -7,14 +7,14 @@ use borrow.Author.Needs.{needs}
 use lib.IntN.{ℤ, pos}
 use lib.ListN.{length, take, drop, replicate}
 use lib.Seq.{length-take-le}
-use Rattle.reading.specs.Reading.{Ask, done, _>>=_, many}
+use Rattle.reading.specs.Readers.{Ask, done, _>>=_, many}
 use Rattle.number.specs.Private.{Small}
-use Rattle.rfc9639.specs.Integers.{sample}
+use Rattle.rfc9639.specs.Integers.{signedBits}
 use Rattle.rfc9639.specs.Residual.{residual}
 use Rattle.rfc9639.specs.Prediction.{predict}
-use Rattle.rfc9639.specs.Subframe.{lpcBehind}
-use Rattle.subframe.proofs.Lending.{front-got, front-stops, front-then, first-taken, between-long}
-use Rattle.subframe.proofs.Channels.{predictable, predicted-block, read-row}
+use Rattle.rfc9639.specs.Subframe.{lpcAfterShift}
+use Rattle.subframe.proofs.SliceParts.{front-got, front-stops, front-then, first-taken, front-replaced-length}
+use Rattle.subframe.proofs.DecodedSubframes.{predictable, predicted-block, read-row}
 use Rattle.subframe.proofs.decode_lpc_after_shift.Statement.{statement}
 use Rattle.subframe.proofs.decode_lpc_after_shift.Tie as tie
 
@@ -49,7 +49,7 @@ module _ (c : tie.After-decode-verbatim) where
   out = start .args .out .now
 
   abbrev reader : ℕ → Ask (List ℤ)
-  reader k = many k (sample (start .args .precision))
+  reader k = many k (signedBits (start .args .precision))
 
   abbrev rest : List ℤ → Ask (List ℤ)
   rest cs = residual order (length out) >>= (λ r. done (predict cs (start .args .shift) (take order out) r))
@@ -62,10 +62,10 @@ module _ (c : tie.After-decode-verbatim) where
   front = first-taken order room (start .pre .2) coefficients (c .decode-verbatim .kept .1 .1 .1 .0) (drop order room)
 
   within : order ≤ length (coefficients ++ drop order room)
-  within = omega (arith, between-long order room (start .pre .2) coefficients (c .decode-verbatim .kept .1 .1 .1 .0), start .pre .2)
+  within = omega (arith, front-replaced-length order room (start .pre .2) coefficients (c .decode-verbatim .kept .1 .1 .1 .0), start .pre .2)
 
 returns : tie.Need-returns
-unfolding lpcBehind
+unfolding lpcAfterShift
 returns c =
     let v = c .before .before .before in let s = start v in
     front-stops (reader v) (s .args .s .now) (s .args .at) (order v) room (s .pre .2) (coefficients v) (v .decode-verbatim .ensures) (rest v) (c .enum-told .given .1) _
@@ -92,7 +92,7 @@ same-length : tie.Need-same-length
 same-length c = search needs
 
 returns-2 : tie.Need-returns-2
-unfolding lpcBehind
+unfolding lpcAfterShift
 returns-2 c =
     let k = c .before .before .before .before .before in let v = k .before .before .before in let s = start v in
     c .before .decode-predicted .ensures

@@ -4,11 +4,11 @@ use mathlib.Core.List.{List}
 use borrow.Author.Needs.{needs}
 use lib.IntN.{ℤ}
 use lib.ListN.{length, take}
-use Rattle.reading.specs.Reading.{Ask, done}
+use Rattle.reading.specs.Readers.{Ask, done}
 use Rattle.rfc9639.specs.Residual.{residual}
 use Rattle.rfc9639.specs.Prediction.{predict}
-use Rattle.subframe.proofs.Lending.{passed-on, then-done}
-use Rattle.subframe.proofs.Channels.{predicted-put}
+use Rattle.subframe.proofs.SliceParts.{passed-on, then-done}
+use Rattle.subframe.proofs.DecodedSubframes.{predicted-put}
 use Rattle.subframe.proofs.decode_predicted.Statement.{statement}
 use Rattle.subframe.proofs.decode_predicted.Tie as tie
 

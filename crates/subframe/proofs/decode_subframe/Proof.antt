@@ -3,13 +3,13 @@ use native.Mathlib.Omega.{arith}
 use mathlib.Core.Path.{sym, _∙_}
 use borrow.Author.Needs.{needs}
 use lib.ListN.{length}
-use Rattle.reading.proofs.Running.{bind-got}
-use Rattle.error.proofs.Passing.{bind-refusal}
-use Rattle.rfc9639.specs.Subframe.{subframeHeader, subframeBehind, subframe}
+use Rattle.reading.proofs.ByteRuns.{bind-got}
+use Rattle.error.proofs.Refusals.{bind-refusal}
+use Rattle.rfc9639.specs.Subframe.{subframeHeader, subframeAfterHeader, subframe}
 use Rattle.subframe.specs.Private.{subframeHeaderAt}
-use Rattle.subframe.proofs.Lending.{answer-is}
-use Rattle.subframe.proofs.Behind.{header-sound}
-use Rattle.subframe.proofs.Channels.{too-wide, not-wide}
+use Rattle.subframe.proofs.SliceParts.{answer-is}
+use Rattle.subframe.proofs.HeaderBounds.{header-sound}
+use Rattle.subframe.proofs.DecodedSubframes.{too-wide, not-wide}
 use Rattle.subframe.proofs.decode_subframe.Statement.{statement}
 use Rattle.subframe.proofs.decode_subframe.Tie as tie
 
@@ -39,14 +39,14 @@ unfolding subframe
 returns-2 c =
     let k = c .before .before .before .before in let r = k .before .before in let a = r .before .before .before .args in
     c .before .decode-after-header .ensures
-    ∙ sym (bind-got (subframeHeader (a .width)) (a .s .now) (a .at) (subframeBehind (length (a .out .now)) (a .width)) (answer-is subframeHeaderAt (r .read-subframe-header .ensures) (k .read .given .1)))
+    ∙ sym (bind-got (subframeHeader (a .width)) (a .s .now) (a .at) (subframeAfterHeader (length (a .out .now)) (a .width)) (answer-is subframeHeaderAt (r .read-subframe-header .ensures) (k .read .given .1)))
     ∙ not-wide (a .width) (length (a .out .now)) (a .s .now) (a .at) (r .before .if1 .left)
 
 returns-3 : tie.Need-returns-3
 unfolding subframe
 returns-3 c =
     let k = c .before in let r = k .before .before in let a = r .before .before .before .args in
-    sym (bind-refusal (subframeHeader (a .width)) (a .s .now) (a .at) (subframeBehind (length (a .out .now)) (a .width)) (k .read2 .given .0 .0) (answer-is subframeHeaderAt (r .read-subframe-header .ensures) (k .read2 .given .1)))
+    sym (bind-refusal (subframeHeader (a .width)) (a .s .now) (a .at) (subframeAfterHeader (length (a .out .now)) (a .width)) (k .read2 .given .0 .0) (answer-is subframeHeaderAt (r .read-subframe-header .ensures) (k .read2 .given .1)))
     ∙ not-wide (a .width) (length (a .out .now)) (a .s .now) (a .at) (r .before .if1 .left)
 
 pub decode-subframe-spec : {M : Type 1} → statement M

@@ -3,7 +3,7 @@ use Prim.Native.Nat.{_-_}
 use native.Mathlib.Omega.{arith}
 use borrow.Author.Needs.{needs}
 use lib.ListN.{length}
-use Rattle.subframe.proofs.Channels.{Mapped, begin, turn, end}
+use Rattle.subframe.proofs.DecodedSubframes.{Mapped, begin, turn, end}
 use Rattle.rfc9639.specs.Integers.{shiftUp}
 use Rattle.subframe.proofs.shift_all.Statement.{statement}
 use Rattle.subframe.proofs.shift_all.Tie as tie

@@ -7,7 +7,7 @@ use mathlib.Core.List.{List}
 use lib.ListN.{drop}
 use Rattle.rfc9639.specs.Read.{read}
 use Rattle.frame.specs.Reads.{Reads}
-use Rattle.walk.proofs.OneStep.{part-rest, next-there, frame-steps, refused-steps}
+use Rattle.walk.proofs.NextPlace.{part-from-place, next-in-range, frame-steps, refused-steps}
 use Rattle.walk.proofs.read_next.Statement.{statement}
 use Rattle.walk.proofs.read_next.Tie as tie
 use Rattle.walk.proofs.read_next.Reads as reads
@@ -42,14 +42,14 @@ unfolding start
 read-is c =
     let a = start c .args in
     let from = c .before .before .before .lesser in
-    subst (λ (l : List ℕ). Reads (read l (a .samples .now)) (c .read-frame .result) (c .read-frame .last .1 .0)) (part-rest (a .s .now) (a .place) (from .result) (from .ensures)) (c .read-frame .ensures)
+    subst (λ (l : List ℕ). Reads (read l (a .samples .now)) (c .read-frame .result) (c .read-frame .last .1 .0)) (part-from-place (a .s .now) (a .place) (from .result) (from .ensures)) (c .read-frame .ensures)
 
 add-t14 : tie.Need-add-t14
 unfolding start
 add-t14 c =
     let read = c .before .before .before .before .before in
     let a = start read .args in
-    let t = next-there (a .s .now) (a .place) (a .samples .now) (read-is read) (c .before .before .answer .given .1) in
+    let t = next-in-range (a .s .now) (a .place) (a .samples .now) (read-is read) (c .before .before .answer .given .1) in
     omega arith
 
 enum-told : tie.Need-enum-told

@@ -5,13 +5,13 @@ use mathlib.Core.Path.{_≡_, sym, _∙_}
 use borrow.Author.Tests.{not-true, not-false}
 use borrow.Author.Needs.{needs}
 use lib.Seq.{length-take-le}
-use Rattle.reading.specs.Reading.{bits}
+use Rattle.reading.specs.Readers.{bits}
 use Rattle.reading.specs.Places.{gotAt, runAt}
-use Rattle.reading.proofs.Running.{In, inside-in, runAt-out}
-use Rattle.input.proofs.Laws.{read-got, read-short}
+use Rattle.reading.proofs.ByteRuns.{In, inside-in, runAt-out}
+use Rattle.input.proofs.Callers.{read-got, read-short}
 use Rattle.rfc9639.specs.CheckSums.{crc16}
 use Rattle.header.proofs.StoredSum.{sum-short, sum-differs, sum-fits}
-use Rattle.frame.proofs.Footing.{no-padding, padded-in, padded-byte, sum-next}
+use Rattle.frame.proofs.FrameFooter.{no-padding, padded-in, padded-byte, sum-next}
 use Rattle.frame.proofs.footer.read_footer.Statement.{statement}
 use Rattle.frame.proofs.footer.read_footer.Tie as tie
 

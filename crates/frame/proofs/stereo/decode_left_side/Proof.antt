@@ -4,7 +4,7 @@ use native.Mathlib.Omega.{arith}
 use mathlib.Core.Path.{_∙_}
 use borrow.Author.Needs.{needs}
 use Rattle.rfc9639.specs.Stereo.{rightOf}
-use Rattle.frame.proofs.Joining.{first, PairsJoined, begin, step-right, end, joined-left}
+use Rattle.frame.proofs.StereoPairs.{first, PairsJoined, begin, step-right, end, joined-left}
 use Rattle.frame.proofs.stereo.decode_left_side.Statement.{statement}
 use Rattle.frame.proofs.stereo.decode_left_side.Tie as tie
 

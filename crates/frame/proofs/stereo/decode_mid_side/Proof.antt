@@ -5,7 +5,7 @@ use mathlib.Core.Path.{_∙_}
 use borrow.Author.Needs.{needs}
 use lib.ListN.{length-set}
 use Rattle.rfc9639.specs.Stereo.{leftOfMid, rightOfMid}
-use Rattle.frame.proofs.Joining.{PairsJoined, begin, step-both, end, joined-mid}
+use Rattle.frame.proofs.StereoPairs.{PairsJoined, begin, step-both, end, joined-mid}
 use Rattle.frame.proofs.stereo.decode_mid_side.Statement.{statement}
 use Rattle.frame.proofs.stereo.decode_mid_side.Tie as tie
 

@@ -4,7 +4,7 @@ use native.Mathlib.Omega.{arith}
 use mathlib.Core.Path.{_∙_}
 use borrow.Author.Needs.{needs}
 use Rattle.rfc9639.specs.Stereo.{leftOf}
-use Rattle.frame.proofs.Joining.{second, PairsJoined, begin, step-left, end, joined-right}
+use Rattle.frame.proofs.StereoPairs.{second, PairsJoined, begin, step-left, end, joined-right}
 use Rattle.frame.proofs.stereo.decode_right_side.Statement.{statement}
 use Rattle.frame.proofs.stereo.decode_right_side.Tie as tie
 

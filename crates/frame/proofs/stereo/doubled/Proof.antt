@@ -8,8 +8,8 @@ use mir.Facts.{toZ-ofZ}
 use Rattle.rfc9639.specs.Integers.{low, wrapped, shiftDown}
 use Rattle.rfc9639.specs.Stereo.{doubled}
 use Rattle.rfc9639.proofs.Widths.{of-sfits, to-sfits, shiftDown-fits}
-use Rattle.rfc9639.proofs.Machine.{widen-fits, widened}
-use Rattle.frame.proofs.Joining.{low-bit, twice-fits, bit-fits, doubled-fits}
+use Rattle.rfc9639.proofs.MachineIntegers.{widen-fits, widened}
+use Rattle.frame.proofs.StereoPairs.{low-bit, twice-fits, bit-fits, doubled-fits}
 use Rattle.frame.proofs.stereo.doubled.Statement.{statement}
 use Rattle.frame.proofs.stereo.doubled.Tie as tie
 

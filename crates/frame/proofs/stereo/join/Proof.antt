@@ -5,7 +5,7 @@ use borrow.Author.Needs.{needs}
 use lib.ListN.{length}
 use Rattle.rfc9639.specs.declared.ChannelAssignment.{ChannelAssignment}
 use Rattle.rfc9639.specs.HeaderCodes.{channelCount}
-use Rattle.rfc9639.specs.Stereo.{joined}
+use Rattle.rfc9639.specs.Stereo.{leftAndRight}
 use Rattle.frame.proofs.stereo.join.Statement.{statement}
 use Rattle.frame.proofs.stereo.join.Tie as tie
 
@@ -14,8 +14,8 @@ module _ (c : tie.Start) {which : ChannelAssignment} (e : c .args .channels ≡ 
   count : length (c .args .out .now) ≡ channelCount which * c .args .n
   count = c .pre ∙ ap (λ a. channelCount a * c .args .n) e
 
-  told : joined which (c .args .n) (c .args .out .now) ≡ joined (c .args .channels) (c .args .n) (c .args .out .now)
-  told = ap (λ a. joined a (c .args .n) (c .args .out .now)) (sym e)
+  told : leftAndRight which (c .args .n) (c .args .out .now) ≡ leftAndRight (c .args .channels) (c .args .n) (c .args .out .now)
+  told = ap (λ a. leftAndRight a (c .args .n) (c .args .out .now)) (sym e)
 
 enum-told : tie.Need-enum-told
 enum-told c = search needs
@@ -42,7 +42,7 @@ unfolding channelCount
 decode-mid-side-requires c κs = count (c .before .before .before) (c .before .enum-told4 .given .1)
 
 returns : tie.Need-returns
-unfolding joined
+unfolding leftAndRight
 returns c = told (c .before .before) (c .enum-told .given .1)
 
 same-length : tie.Need-same-length

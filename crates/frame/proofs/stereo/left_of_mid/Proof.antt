@@ -2,8 +2,8 @@
 use borrow.Author.Needs.{needs}
 use lib.IntN.{ℤ, _+ℤ_}
 use Rattle.rfc9639.specs.Stereo.{leftOfMid}
-use Rattle.rfc9639.proofs.Machine.{widen-fits}
-use Rattle.frame.proofs.Joining.{half-of}
+use Rattle.rfc9639.proofs.MachineIntegers.{widen-fits}
+use Rattle.frame.proofs.StereoPairs.{half-of}
 use Rattle.frame.proofs.stereo.left_of_mid.Statement.{statement}
 use Rattle.frame.proofs.stereo.left_of_mid.Tie as tie
 

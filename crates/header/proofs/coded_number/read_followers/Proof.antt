@@ -3,16 +3,16 @@ use borrow.Author.Needs.{needs}
 use borrow.Author.Tests.{not-true, not-false}
 use native.Mathlib.Omega.{arith}
 use mathlib.Core.Path.{_≡_, sym}
-use Rattle.reading.specs.Reading.{bits}
+use Rattle.reading.specs.Readers.{bits}
 use Rattle.reading.specs.Places.{gotAt, runAt}
-use Rattle.reading.proofs.Running.{runAt-out}
-use Rattle.input.proofs.Laws.{read-got, read-short}
-use Rattle.header.proofs.Coding.{Following, begin, end, cut, wrong, step, fits}
+use Rattle.reading.proofs.ByteRuns.{runAt-out}
+use Rattle.input.proofs.Callers.{read-got, read-short}
+use Rattle.header.proofs.CodedNumber.{FollowersLeft, begin, end, follower-short, follower-refused, step, number-fits}
 use Rattle.header.proofs.coded_number.read_followers.Statement.{statement}
 use Rattle.header.proofs.coded_number.read_followers.Tie as tie
 
 abbrev Inv-loop : tie.InvT-loop
-Inv-loop s n v p₀ number₀ left₀ p number left = Following s n v p₀ left number p
+Inv-loop s n v p₀ number₀ left₀ p number left = FollowersLeft s n v p₀ left number p
 
 abbrev μ-loop : tie.MeasureT-loop
 μ-loop s n v p₀ number₀ left₀ p number left = left
@@ -37,13 +37,13 @@ read-is : (c : tie.After-read Inv-loop μ-loop) → runAt (bits 8) (c .before .b
 read-is c = read-got 8 _ _ (search needs) (c .before .before .read-bits .ensures) (c .read .given .1)
 
 returns-2 : tie.Need-returns-2 Inv-loop μ-loop
-returns-2 c = sym (wrong _ _ _ _ (c .before .before .before .before .before .before .loop .inv) (c .before .before .before .before .before .loop-test .taken) (read-is (c .before .before)) (c .if2 .taken))
+returns-2 c = sym (follower-refused _ _ _ _ (c .before .before .before .before .before .before .loop .inv) (c .before .before .before .before .before .loop-test .taken) (read-is (c .before .before)) (c .if2 .taken))
 
 mul-number : tie.Need-mul-number Inv-loop μ-loop
-mul-number c = omega (arith, fits _ _ _ _ (c .before .before .before .before .before .before .loop .inv) (c .before .before .before .before .before .loop-test .taken) (read-is (c .before .before)))
+mul-number c = omega (arith, number-fits _ _ _ _ (c .before .before .before .before .before .before .loop .inv) (c .before .before .before .before .before .loop-test .taken) (read-is (c .before .before)))
 
 add-number : tie.Need-add-number Inv-loop μ-loop
-add-number c = omega (arith, fits _ _ _ _ (c .before .before .before .before .before .before .loop .inv) (c .before .before .before .before .before .loop-test .taken) (read-is (c .before .before)))
+add-number c = omega (arith, number-fits _ _ _ _ (c .before .before .before .before .before .before .loop .inv) (c .before .before .before .before .before .loop-test .taken) (read-is (c .before .before)))
 
 sub-left : tie.Need-sub-left Inv-loop μ-loop
 sub-left c = search needs
@@ -58,7 +58,7 @@ enum-told : tie.Need-enum-told Inv-loop μ-loop
 enum-told c = search needs
 
 returns-3 : tie.Need-returns-3 Inv-loop μ-loop
-returns-3 c = sym (cut _ _ _ _ (c .before .before .before .before .loop .inv) (c .before .before .before .loop-test .taken) (read-short 8 _ _ (search needs) (c .before .before .read-bits .ensures) (c .enum-told .given .1)))
+returns-3 c = sym (follower-short _ _ _ _ (c .before .before .before .before .loop .inv) (c .before .before .before .loop-test .taken) (read-short 8 _ _ (search needs) (c .before .before .read-bits .ensures) (c .enum-told .given .1)))
 
 returns-4 : tie.Need-returns-4 Inv-loop μ-loop
 returns-4 c = sym (end _ _ _ _ (c .before .loop .inv) (c .loop-test .left))

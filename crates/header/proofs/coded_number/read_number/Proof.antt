@@ -1,10 +1,10 @@
 -- The coded number: its first byte, then the bytes that it announces. Assumes nothing.
 use borrow.Author.Needs.{needs}
 use mathlib.Core.Path.{_≡_, sym, _∙_}
-use Rattle.reading.specs.Reading.{bits}
+use Rattle.reading.specs.Readers.{bits}
 use Rattle.reading.specs.Places.{gotAt, runAt}
-use Rattle.reading.proofs.Running.{stays-in, in-inside, bits-below, bind-got, bind-short}
-use Rattle.input.proofs.Laws.{read-got, read-short}
+use Rattle.reading.proofs.ByteRuns.{stays-in, in-inside, bits-below, bind-got, bind-short}
+use Rattle.input.proofs.Callers.{read-got, read-short}
 use Rattle.rfc9639.specs.Number.{codedNumber}
 use Rattle.header.proofs.coded_number.read_number.Statement.{statement}
 use Rattle.header.proofs.coded_number.read_number.Tie as tie

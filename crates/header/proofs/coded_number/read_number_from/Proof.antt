@@ -2,8 +2,8 @@
 use borrow.Author.Needs.{needs}
 use borrow.Author.Tests.{lt-ltb, le-ltb}
 use mathlib.Core.Path.{sym}
-use Rattle.reading.proofs.Running.{inside-in, runAt-stop}
-use Rattle.rfc9639.specs.Number.{followed, numberFrom}
+use Rattle.reading.proofs.ByteRuns.{inside-in, runAt-stop}
+use Rattle.rfc9639.specs.Number.{withFollowers, numberFrom}
 use Rattle.header.proofs.coded_number.read_number_from.Statement.{statement}
 use Rattle.header.proofs.coded_number.read_number_from.Tie as tie
 
@@ -11,7 +11,7 @@ read-followers-requires : tie.Need-read-followers-requires
 read-followers-requires c κs = search needs
 
 returns : tie.Need-returns
-unfolding numberFrom followed
+unfolding numberFrom withFollowers
 returns c = rw (lt-ltb _ _ (c .before .if1 .taken)) (c .read-followers .ensures)
 
 returns-2 : tie.Need-returns-2

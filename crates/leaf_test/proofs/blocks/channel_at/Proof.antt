@@ -2,7 +2,7 @@
 use native.Mathlib.Omega.{arith}
 use borrow.Author.Needs.{needs}
 use lib.ListN.{length}
-use Rattle.block.proofs.Blocks.{Ranged, channel-range}
+use Rattle.block.proofs.BlockAccess.{Ranged, channel-range}
 use Rattle.leaf_test.proofs.blocks.channel_at.Statement.{statement}
 use Rattle.leaf_test.proofs.blocks.channel_at.Tie as tie
 
@@ -28,14 +28,14 @@ part-there-start c = omega (arith, range (c .before) .from, range (c .before) .t
 part-there-end : tie.Need-part-there-end
 part-there-end c = omega (arith, range (c .before) .inside, range (c .before) .to)
 
-put-requires : tie.Need-put-requires
-put-requires c κs = search needs
+show-number-requires : tie.Need-show-number-requires
+show-number-requires c κs = search needs
 
 mark-requires : tie.Need-mark-requires
 mark-requires c κs = search needs
 
-put-requires-2 : tie.Need-put-requires-2
-put-requires-2 c κs = search needs
+show-number-requires-2 : tie.Need-show-number-requires-2
+show-number-requires-2 c κs = search needs
 
 mark-requires-2 : tie.Need-mark-requires-2
 mark-requires-2 c κs = search needs
@@ -46,8 +46,8 @@ values32-requires c κs = search needs
 enum-known-r-2 : tie.Need-enum-known-r-2
 enum-known-r-2 c = search needs
 
-refused-requires : tie.Need-refused-requires
-refused-requires c κs = search needs
+show-refusal-requires : tie.Need-show-refusal-requires
+show-refusal-requires c κs = search needs
 
 mark-requires-3 : tie.Need-mark-requires-3
 mark-requires-3 c κs = search needs
@@ -68,13 +68,13 @@ channel-at-spec =
     sub-there
     part-there-start
     part-there-end
-    put-requires
+    show-number-requires
     mark-requires
-    put-requires-2
+    show-number-requires-2
     mark-requires-2
     values32-requires
     enum-known-r-2
-    refused-requires
+    show-refusal-requires
     mark-requires-3
     returns
     returns-2)

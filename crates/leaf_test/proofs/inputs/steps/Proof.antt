@@ -11,8 +11,8 @@ Inv-loop s ns byte bit p₀ i₀ p i = i ≤ length ns
 abbrev μ-loop : tie.MeasureT-loop
 μ-loop s ns byte bit p₀ i₀ p i = length ns - i
 
-bytes-requires : tie.Need-bytes-requires Inv-loop μ-loop
-bytes-requires c κs = search needs
+show-bytes-requires : tie.Need-show-bytes-requires Inv-loop μ-loop
+show-bytes-requires c κs = search needs
 
 mark-requires : tie.Need-mark-requires Inv-loop μ-loop
 mark-requires c κs = search needs
@@ -44,7 +44,7 @@ steps-spec =
     (tie.spec
     Inv-loop
     μ-loop
-    bytes-requires
+    show-bytes-requires
     mark-requires
     loop-holds
     shared-slice-read-step

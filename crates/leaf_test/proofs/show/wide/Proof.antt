@@ -1,6 +1,6 @@
 -- `wide`: a 32-bit number fits 64 bits. Assumes nothing.
 use borrow.Author.Needs.{needs}
-use Rattle.rfc9639.proofs.Machine.{widen-fits}
+use Rattle.rfc9639.proofs.MachineIntegers.{widen-fits}
 use Rattle.leaf_test.proofs.show.wide.Statement.{statement}
 use Rattle.leaf_test.proofs.show.wide.Tie as tie
 

@@ -1,11 +1,11 @@
 -- `read_kind`: the type and the wasted bits, as the definition reads them. Assumes nothing.
 use borrow.Author.Needs.{needs}
 use mathlib.Core.Path.{_≡_, sym, ap, _∙_}
-use Rattle.reading.specs.Reading.{bits}
+use Rattle.reading.specs.Readers.{bits}
 use Rattle.reading.specs.Places.{gotAt, runAt}
-use Rattle.input.proofs.Laws.{read-got, read-short}
+use Rattle.input.proofs.Callers.{read-got, read-short}
 use Rattle.subframe.specs.Private.{kindAsk, wastedAt}
-use Rattle.subframe.proofs.Heads.{code-short, type-reserved, known-got, known-stops}
+use Rattle.subframe.proofs.HeaderFields.{code-short, type-reserved, kind-got, kind-stops}
 use Rattle.subframe.proofs.header.read_kind.Statement.{statement}
 use Rattle.subframe.proofs.header.read_kind.Tie as tie
 
@@ -47,10 +47,10 @@ enum-known-read-2 : tie.Need-enum-known-read-2
 enum-known-read-2 c = search needs
 
 returns-3 : tie.Need-returns-3
-returns-3 c = sym (known-got _ _ _ (code-got (c .before .before .before .before .before .before .before .before .before)) (sym (ap kindAsk (c .before .before .before .before .before .known .given .1)) ∙ c .before .before .before .before .before .before .before .subframe-type .ensures) (sym (c .before .before .before .read-wasted .ensures) ∙ ap wastedAt (c .before .read .given .1)))
+returns-3 c = sym (kind-got _ _ _ (code-got (c .before .before .before .before .before .before .before .before .before)) (sym (ap kindAsk (c .before .before .before .before .before .known .given .1)) ∙ c .before .before .before .before .before .before .before .subframe-type .ensures) (sym (c .before .before .before .read-wasted .ensures) ∙ ap wastedAt (c .before .read .given .1)))
 
 returns-4 : tie.Need-returns-4
-returns-4 c = sym (known-stops _ _ _ (code-got (c .before .before .before .before .before .before .before .before .before)) (sym (ap kindAsk (c .before .before .before .before .before .known .given .1)) ∙ c .before .before .before .before .before .before .before .subframe-type .ensures) (c .before .read2 .given .0 .0) (sym (c .before .before .before .read-wasted .ensures) ∙ ap wastedAt (c .before .read2 .given .1)))
+returns-4 c = sym (kind-stops _ _ _ (code-got (c .before .before .before .before .before .before .before .before .before)) (sym (ap kindAsk (c .before .before .before .before .before .known .given .1)) ∙ c .before .before .before .before .before .before .before .subframe-type .ensures) (c .before .read2 .given .0 .0) (sym (c .before .before .before .read-wasted .ensures) ∙ ap wastedAt (c .before .read2 .given .1)))
 
 pub read-kind-spec : {M : Type 1} → statement M
 read-kind-spec =

@@ -3,11 +3,11 @@ use Prim.Native.Nat.{_<_}
 use borrow.Author.Needs.{needs}
 use native.Mathlib.Omega.{arith}
 use mathlib.Core.Path.{_≡_, sym}
-use Rattle.reading.specs.Reading.{bits}
+use Rattle.reading.specs.Readers.{bits}
 use Rattle.reading.specs.Places.{gotAt, runAt}
-use Rattle.reading.proofs.Running.{bits-below}
-use Rattle.input.proofs.Laws.{read-got, read-short}
-use Rattle.subframe.proofs.Heads.{precision-short, precision-reserved, shift-short, shift-negative, quantization-known}
+use Rattle.reading.proofs.ByteRuns.{bits-below}
+use Rattle.input.proofs.Callers.{read-got, read-short}
+use Rattle.subframe.proofs.HeaderFields.{precision-short, precision-reserved, shift-short, shift-negative, quantization-known}
 use Rattle.subframe.proofs.header.read_quantizer.Statement.{statement}
 use Rattle.subframe.proofs.header.read_quantizer.Tie as tie
 

@@ -2,11 +2,11 @@
 use Prim.Native.Nat.{ℕ}
 use borrow.Author.Needs.{needs}
 use mathlib.Core.Path.{_≡_, sym}
-use Rattle.reading.specs.Reading.{bits, zeros}
+use Rattle.reading.specs.Readers.{bits, zeros}
 use Rattle.reading.specs.Places.{gotAt, runAt}
 use Rattle.input.specs.Answers.{count}
-use Rattle.input.proofs.Laws.{bit-is, unary-got, unary-short}
-use Rattle.subframe.proofs.Heads.{flag-short, clear-refuses, clear-keeps, run-short, run-many, run-wide, run-keeps}
+use Rattle.input.proofs.Callers.{bit-is, unary-got, unary-short}
+use Rattle.subframe.proofs.HeaderFields.{flag-short, no-width-left, no-wasted-bits, unary-run-short, unary-run-too-long, unary-run-too-wide, unary-run-kept}
 use Rattle.subframe.proofs.header.read_wasted.Statement.{statement}
 use Rattle.subframe.proofs.header.read_wasted.Tie as tie
 
@@ -27,10 +27,10 @@ flag-got : (c : tie.After-flag) → runAt (bits 1) (c .before .before .before .b
 flag-got c = bit-is _ _ (c .before .before .read-bits .ensures) (c .flag .given .1)
 
 returns-2 : tie.Need-returns-2
-returns-2 c = sym (clear-refuses _ _ _ (flag-got (c .before .before .before)) (c .before .if1 .taken) (c .if2 .taken))
+returns-2 c = sym (no-width-left _ _ _ (flag-got (c .before .before .before)) (c .before .if1 .taken) (c .if2 .taken))
 
 returns-3 : tie.Need-returns-3
-returns-3 c = sym (clear-keeps _ _ _ (flag-got (c .before .before .before)) (c .before .if1 .taken) (c .if2 .left))
+returns-3 c = sym (no-wasted-bits _ _ _ (flag-got (c .before .before .before)) (c .before .if1 .taken) (c .if2 .left))
 
 read-unary-requires : tie.Need-read-unary-requires
 read-unary-requires c κs = search needs
@@ -42,14 +42,14 @@ enum-told-2 : tie.Need-enum-told-2
 enum-told-2 c = search needs
 
 returns-4 : tie.Need-returns-4
-returns-4 c = sym (run-short _ _ _ (flag-got (c .before .before .before .before .before)) (c .before .before .before .if1 .left) (unary-short _ _ (c .before .before .read-unary .ensures) (c .enum-told2 .given .1)))
+returns-4 c = sym (unary-run-short _ _ _ (flag-got (c .before .before .before .before .before)) (c .before .before .before .if1 .left) (unary-short _ _ (c .before .before .read-unary .ensures) (c .enum-told2 .given .1)))
 
 -- the zeros after it, and their count
 run-got : (c : tie.After-run) → (z : ℕ) × (runAt zeros (c .before .before .before .before .before .before .before .before .before .args .s .now) (c .before .before .before .before .before .flag .given .0 .1 .0) ≡ gotAt z (c .run .given .0 .1 .0)) × (c .run .given .0 .0 ≡ count z)
 run-got c = unary-got _ _ (c .before .before .read-unary .ensures) (c .run .given .1)
 
 returns-5 : tie.Need-returns-5
-returns-5 c = sym (run-many _ _ _ (flag-got (c .before .before .before .before .before .before .before)) (c .before .before .before .before .before .if1 .left) (run-got (c .before .before) .1) (run-got (c .before .before) .2) (c .if3 .taken))
+returns-5 c = sym (unary-run-too-long _ _ _ (flag-got (c .before .before .before .before .before .before .before)) (c .before .before .before .before .before .if1 .left) (run-got (c .before .before) .1) (run-got (c .before .before) .2) (c .if3 .taken))
 
 cast-wasted : tie.Need-cast-wasted
 cast-wasted c = search needs
@@ -58,10 +58,10 @@ add-wasted : tie.Need-add-wasted
 add-wasted c = search needs
 
 returns-6 : tie.Need-returns-6
-returns-6 c = sym (run-wide _ _ _ (flag-got (c .before .before .before .before .before .before .before .before)) (c .before .before .before .before .before .before .if1 .left) (run-got (c .before .before .before) .1) (run-got (c .before .before .before) .2) (c .before .if3 .left) (c .if4 .taken))
+returns-6 c = sym (unary-run-too-wide _ _ _ (flag-got (c .before .before .before .before .before .before .before .before)) (c .before .before .before .before .before .before .if1 .left) (run-got (c .before .before .before) .1) (run-got (c .before .before .before) .2) (c .before .if3 .left) (c .if4 .taken))
 
 returns-7 : tie.Need-returns-7
-returns-7 c = sym (run-keeps _ _ _ (flag-got (c .before .before .before .before .before .before .before .before)) (c .before .before .before .before .before .before .if1 .left) (run-got (c .before .before .before) .1) (run-got (c .before .before .before) .2) (c .before .if3 .left) (c .if4 .left))
+returns-7 c = sym (unary-run-kept _ _ _ (flag-got (c .before .before .before .before .before .before .before .before)) (c .before .before .before .before .before .before .if1 .left) (run-got (c .before .before .before) .1) (run-got (c .before .before .before) .2) (c .before .if3 .left) (c .if4 .left))
 
 pub read-wasted-spec : {M : Type 1} → statement M
 read-wasted-spec =

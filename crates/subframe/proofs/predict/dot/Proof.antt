@@ -5,13 +5,13 @@ use mathlib.Core.Path.{refl}
 use mathlib.Core.List.{reverse}
 use borrow.Author.Needs.{needs}
 use lib.ListN.{length}
-use Rattle.number.proofs.Sizes.{Dotted, begin, room, end}
-use Rattle.subframe.proofs.PredictSums.{mul-add-asks, turn}
+use Rattle.number.proofs.ProductSums.{DotSoFar, begin, room, end}
+use Rattle.subframe.proofs.PredictionSums.{mul-add-asks, turn}
 use Rattle.subframe.proofs.predict.dot.Statement.{statement}
 use Rattle.subframe.proofs.predict.dot.Tie as tie
 
 abbrev Inv-loop : tie.InvT-loop
-Inv-loop coefficients before sum₀ j₀ sum j = Dotted coefficients (reverse before) sum j
+Inv-loop coefficients before sum₀ j₀ sum j = DotSoFar coefficients (reverse before) sum j
 
 abbrev μ-loop : tie.MeasureT-loop
 μ-loop coefficients before sum₀ j₀ sum j = length coefficients - j

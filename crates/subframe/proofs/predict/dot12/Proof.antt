@@ -4,13 +4,13 @@ use native.Mathlib.Omega.{arith}
 use mathlib.Core.Path.{refl}
 use mathlib.Core.List.{reverse}
 use borrow.Author.Needs.{needs}
-use Rattle.number.proofs.Sizes.{Dotted, begin, room, end}
-use Rattle.subframe.proofs.PredictSums.{mul-add-asks, turn}
+use Rattle.number.proofs.ProductSums.{DotSoFar, begin, room, end}
+use Rattle.subframe.proofs.PredictionSums.{mul-add-asks, turn}
 use Rattle.subframe.proofs.predict.dot12.Statement.{statement}
 use Rattle.subframe.proofs.predict.dot12.Tie as tie
 
 abbrev Inv-loop : tie.InvT-loop
-Inv-loop taps before last sum₀ j₀ sum j = Dotted taps (reverse before) sum j
+Inv-loop taps before last sum₀ j₀ sum j = DotSoFar taps (reverse before) sum j
 
 abbrev μ-loop : tie.MeasureT-loop
 μ-loop taps before last sum₀ j₀ sum j = 12 - j

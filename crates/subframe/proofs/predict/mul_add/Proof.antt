@@ -4,8 +4,8 @@ use lib.IntN.{ℤ, _+ℤ_, _*ℤ_}
 use mir.Syntax.{w32, w64}
 use mir.Val.{toZ, ofZ}
 use mir.Facts.{toZ-ofZ}
-use Rattle.rfc9639.proofs.Machine.{widen-fits, widened}
-use Rattle.number.proofs.Sizes.{product-fits, mul-add-fits, sample-fits}
+use Rattle.rfc9639.proofs.MachineIntegers.{widen-fits, widened}
+use Rattle.number.proofs.ProductSums.{product-fits, mul-add-fits, sample-fits-33}
 use Rattle.subframe.proofs.predict.mul_add.Statement.{statement}
 use Rattle.subframe.proofs.predict.mul_add.Tie as tie
 
@@ -16,14 +16,14 @@ cast-result-2 : tie.Need-cast-result-2
 cast-result-2 c = widen-fits (c .fits .x)
 
 mul-result : tie.Need-mul-result
-mul-result c = rw (widened (c .fits .c), widened (c .fits .x)) (product-fits (c .args .c) (c .args .x) (c .pre .1) (sample-fits (c .fits .x)))
+mul-result c = rw (widened (c .fits .c), widened (c .fits .x)) (product-fits (c .args .c) (c .args .x) (c .pre .1) (sample-fits-33 (c .fits .x)))
 
 product : (c : tie.Start)
     → toZ w64 (ofZ w64 (toZ w64 (ofZ w64 (toZ w32 (ofZ w32 (c .args .c)))) *ℤ toZ w64 (ofZ w64 (toZ w32 (ofZ w32 (c .args .x)))))) ≡ c .args .c *ℤ c .args .x
 product c = toZ-ofZ (mul-result c) ∙ ap₂ (λ (a b : ℤ). a *ℤ b) (widened (c .fits .c)) (widened (c .fits .x))
 
 add-result : tie.Need-add-result
-add-result c = rw (toZ-ofZ (c .fits .sum), product c) (mul-add-fits (c .args .c) (c .args .x) (c .pre .1) (sample-fits (c .fits .x)) (c .args .sum) (c .pre .0))
+add-result c = rw (toZ-ofZ (c .fits .sum), product c) (mul-add-fits (c .args .c) (c .args .x) (c .pre .1) (sample-fits-33 (c .fits .x)) (c .args .sum) (c .pre .0))
 
 returns : tie.Need-returns
 returns c = toZ-ofZ (add-result c) ∙ ap₂ (λ (a b : ℤ). a +ℤ b) (toZ-ofZ (c .fits .sum)) (product c)

@@ -8,7 +8,7 @@ use lib.Seq.{length-take-le}
 use mir.Syntax.{w64}
 use mir.Val.{SFits}
 use mir.Facts.{toZ-ofZ}
-use Rattle.subframe.proofs.Predicting.{Restored, begin, turn, end, resumed-all}
+use Rattle.subframe.proofs.PredictionInPlace.{Restored, begin, turn, end, resumed-predict}
 use Rattle.subframe.proofs.predict.predict_lpc_high_order.Statement.{statement}
 use Rattle.subframe.proofs.predict.predict_lpc_high_order.Tie as tie
 
@@ -65,7 +65,7 @@ same-length : tie.Need-same-length Inv-loop μ-loop
 same-length c = search needs
 
 returns : tie.Need-returns Inv-loop μ-loop
-returns c = end (c .before .loop .inv) (omega arith) ∙ resumed-all _ _ _
+returns c = end (c .before .loop .inv) (omega arith) ∙ resumed-predict _ _ _
 
 pub predict-lpc-high-order-spec : {M : Type 1} → statement M
 predict-lpc-high-order-spec =

@@ -9,8 +9,8 @@ use lib.Seq.{length-take-le, length-front}
 use mir.Syntax.{w64}
 use mir.Val.{SFits}
 use mir.Facts.{toZ-ofZ}
-use Rattle.subframe.proofs.PredictSums.{taps-ask, taps-sum}
-use Rattle.subframe.proofs.Predicting.{Restored, begin, turn, end, resumed-all, resumed-prefix}
+use Rattle.subframe.proofs.PredictionSums.{taps-ask, taps-sum}
+use Rattle.subframe.proofs.PredictionInPlace.{Restored, begin, turn, end, resumed-predict, resumed-prefix}
 use Rattle.subframe.proofs.predict.predict_lpc_low_order.Statement.{statement}
 use Rattle.subframe.proofs.predict.predict_lpc_low_order.Tie as tie
 
@@ -117,8 +117,8 @@ returns-2 c =
     let t = c .before .before in let s = start t in let f = t .before .before .predict-lpc-high-order2 in
     end (c .before .loop .inv) (omega arith)
     ∙ resumed-prefix (s .args .coefficients .now) (s .args .shift) (s .args .out .now) (f .last .1 .1 .0) _ 12 (s .pre .0) (omega arith) (f .kept .1 .1 .0)
-    (f .ensures ∙ sym (resumed-all _ _ _))
-    ∙ resumed-all _ _ _
+    (f .ensures ∙ sym (resumed-predict _ _ _))
+    ∙ resumed-predict _ _ _
 
 pub predict-lpc-low-order-spec : {M : Type 1} → statement M
 predict-lpc-low-order-spec =

@@ -8,8 +8,8 @@ use mir.Val.{toZ, ofZ}
 use mir.Facts.{toZ-ofZ}
 use Rattle.rfc9639.specs.Integers.{wrapped, shiftDown}
 use Rattle.rfc9639.proofs.Widths.{of-sfits}
-use Rattle.rfc9639.proofs.Machine.{widen-fits, widened}
-use Rattle.number.proofs.Sizes.{abs-shiftDown, abs-of-fits, add-fits}
+use Rattle.rfc9639.proofs.MachineIntegers.{widen-fits, widened}
+use Rattle.number.proofs.ProductSums.{abs-shiftDown, abs-of-fits, add-fits}
 use Rattle.subframe.proofs.predict.restore.Statement.{statement}
 use Rattle.subframe.proofs.predict.restore.Tie as tie
 

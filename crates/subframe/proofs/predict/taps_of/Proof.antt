@@ -7,7 +7,7 @@ use lib.ListN.{length, getD}
 use mir.Syntax.{w32}
 use mir.Val.{SFits}
 use mir.Facts.{toZ-ofZ}
-use Rattle.subframe.proofs.PredictSums.{Padding, pad-begin, pad-step, pad-end}
+use Rattle.subframe.proofs.PredictionSums.{Padding, pad-begin, pad-step, pad-end}
 use Rattle.subframe.proofs.predict.taps_of.Statement.{statement}
 use Rattle.subframe.proofs.predict.taps_of.Tie as tie
 

@@ -3,9 +3,9 @@ use native.Mathlib.Omega.{arith}
 use mathlib.Core.Path.{sym}
 use borrow.Author.Needs.{needs}
 use borrow.Author.Tests.{not-true, not-false}
-use Rattle.reading.proofs.Running.{inside-in, runAt-out}
+use Rattle.reading.proofs.ByteRuns.{inside-in, runAt-out}
 use Rattle.rfc9639.specs.Residual.{partition}
-use Rattle.subframe.proofs.Partitions.{Parted, begin, room, part-back, step, stops, end}
+use Rattle.subframe.proofs.Partitions.{Parted, begin, room, part-keeps-length, step, stops, end}
 use Rattle.subframe.proofs.residual.decode_equal_partitions.Statement.{statement}
 use Rattle.subframe.proofs.residual.decode_equal_partitions.Tie as tie
 
@@ -63,7 +63,7 @@ enum-known-read-2 c = search needs
 same-length : tie.Need-same-length Inv-loop μ-loop
 same-length c =
     let b = c .before .before .before .before in
-    part-back (b .before .before .before .loop .inv) (omega arith) (b .decode-partition .last .1 .1 .1 .0) (b .decode-partition .kept .1 .1 .1 .0)
+    part-keeps-length (b .before .before .before .loop .inv) (omega arith) (b .decode-partition .last .1 .1 .1 .0) (b .decode-partition .kept .1 .1 .1 .0)
 
 returns-2 : tie.Need-returns-2 Inv-loop μ-loop
 returns-2 c =

@@ -2,7 +2,7 @@
 use native.Mathlib.Omega.{arith}
 use borrow.Author.Needs.{needs}
 use lib.Pow.{pow-pos}
-use Rattle.subframe.proofs.Partitions.{parameter-count, no-parameter, parameter-below, partition-as-is, partition-coded}
+use Rattle.subframe.proofs.Partitions.{parameter-count, parameter-short, parameter-below, partition-as-is, partition-coded}
 use Rattle.subframe.proofs.residual.decode_partition.Statement.{statement}
 use Rattle.subframe.proofs.residual.decode_partition.Tie as tie
 
@@ -19,7 +19,7 @@ enum-told : tie.Need-enum-told
 enum-told c = search needs
 
 returns : tie.Need-returns
-returns c = no-parameter _ _ _ _ (omega arith) (c .before .before .read-bits .ensures) (c .enum-told .given .1)
+returns c = parameter-short _ _ _ _ (omega arith) (c .before .before .read-bits .ensures) (c .enum-told .given .1)
 
 shl-if1 : tie.Need-shl-if1
 shl-if1 c = search needs

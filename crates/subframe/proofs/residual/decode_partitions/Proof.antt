@@ -5,10 +5,10 @@ use mathlib.Core.Path.{ap, sym, _∙_}
 use borrow.Author.Needs.{needs}
 use lib.ListN.{replicate}
 use lib.Seq.{length-take-le}
-use Rattle.reading.specs.Reading.{each}
+use Rattle.reading.specs.Readers.{each}
 use Rattle.rfc9639.specs.Residual.{partition}
-use Rattle.subframe.specs.Answers.{means}
-use Rattle.subframe.proofs.Lending.{front-got, front-stops, both-put}
+use Rattle.subframe.specs.Answers.{samplesAt}
+use Rattle.subframe.proofs.SliceParts.{front-got, front-stops, parts-put}
 use Rattle.subframe.proofs.Partitions.{first-then}
 use Rattle.subframe.proofs.residual.decode_partitions.Statement.{statement}
 use Rattle.subframe.proofs.residual.decode_partitions.Tie as tie
@@ -62,7 +62,7 @@ returns-2 : tie.Need-returns-2
 returns-2 c =
     let b = c .before .before .before .before .before .before .before in let a = b .before .before .before .args in
     let d = b .decode-partition in let r = c .before .decode-equal-partitions in
-    ap (means (r .result)) (both-put (a .size - a .warm) (a .out .now) (omega arith) (d .last .1 .1 .1 .0) (d .kept .1 .1 .1 .0) (r .last .1 .1 .1 .1 .1 .0))
+    ap (samplesAt (r .result)) (parts-put (a .size - a .warm) (a .out .now) (omega arith) (d .last .1 .1 .1 .0) (d .kept .1 .1 .1 .0) (r .last .1 .1 .1 .1 .1 .0))
     ∙ first-then (partition (a .method)) (a .size - a .warm) (replicate (a .count) (a .size)) (a .s .now) (a .at)
     (front-got (partition (a .method)) (a .s .now) (a .at) (a .size - a .warm) (a .out .now) (omega arith) (d .last .1 .1 .1 .0) (d .ensures) (c .before .before .before .before .read .given .1))
     (r .result) (r .last .1 .1 .1 .1 .1 .0) (r .ensures)

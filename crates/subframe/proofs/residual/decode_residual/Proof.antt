@@ -3,7 +3,7 @@ use Prim.Native.Nat.{_<_}
 use native.Mathlib.Omega.{arith}
 use mathlib.Core.Path.{_∙_}
 use borrow.Author.Needs.{needs}
-use Rattle.subframe.proofs.Residuals.{parts-some, sizes-sum, no-method, method-reserved, no-order, order-below, size-uneven, size-below-warm, partitions-read}
+use Rattle.subframe.proofs.ResidualShapes.{partitionCount-positive, sizes-sum, method-short, method-reserved, order-short, order-below, size-uneven, size-below-warm, partitions-read}
 use Rattle.subframe.proofs.residual.decode_residual.Statement.{statement}
 use Rattle.subframe.proofs.residual.decode_residual.Tie as tie
 
@@ -17,7 +17,7 @@ enum-told : tie.Need-enum-told
 enum-told c = search needs
 
 returns : tie.Need-returns
-returns c = no-method _ _ _ _ (c .before .before .read-bits .ensures) (c .enum-told .given .1)
+returns c = method-short _ _ _ _ (c .before .before .read-bits .ensures) (c .enum-told .given .1)
 
 returns-2 : tie.Need-returns-2
 returns-2 c = let b = c .before .before in method-reserved _ _ _ _ (b .before .before .read-bits .ensures) (b .first .given .1) (c .if1 .taken)
@@ -35,7 +35,7 @@ returns-3 : tie.Need-returns-3
 returns-3 c =
     let b = c .before .before in
     let a = b .before .before .before in
-    no-order _ _ _ _ (a .before .before .read-bits .ensures) (a .first .given .1) (b .before .if1 .left) (b .read-bits2 .ensures) (c .enum-told2 .given .1)
+    order-short _ _ _ _ (a .before .before .read-bits .ensures) (a .first .given .1) (b .before .if1 .left) (b .read-bits2 .ensures) (c .enum-told2 .given .1)
 
 -- the order has four bits
 below : (c : tie.After-known-told2) → c .before .second .given .0 .0 < 16
@@ -48,7 +48,7 @@ shl-count : tie.Need-shl-count
 shl-count c = omega (arith, below c)
 
 rem-if2 : tie.Need-rem-if2
-rem-if2 c = parts-some (below c)
+rem-if2 c = partitionCount-positive (below c)
 
 returns-4 : tie.Need-returns-4
 returns-4 c =
@@ -58,7 +58,7 @@ returns-4 c =
     (c .before .before .second .given .1) (c .if2 .taken)
 
 div-size : tie.Need-div-size
-div-size c = parts-some (below (c .before))
+div-size c = partitionCount-positive (below (c .before))
 
 returns-5 : tie.Need-returns-5
 returns-5 c =
@@ -72,7 +72,7 @@ cast-decode-partitions : tie.Need-cast-decode-partitions
 cast-decode-partitions c = search needs
 
 sub-decode-partitions : tie.Need-sub-decode-partitions
-sub-decode-partitions c = parts-some (below (c .before .before))
+sub-decode-partitions c = partitionCount-positive (below (c .before .before))
 
 decode-partitions-requires : tie.Need-decode-partitions-requires
 decode-partitions-requires c κs =

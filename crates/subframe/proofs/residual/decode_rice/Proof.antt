@@ -5,9 +5,9 @@ use mathlib.Core.Path.{sym}
 use borrow.Author.Needs.{needs}
 use borrow.Author.Tests.{not-true, not-false}
 use lib.ListN.{length}
-use Rattle.reading.proofs.Running.{inside-in, runAt-out}
+use Rattle.reading.proofs.ByteRuns.{inside-in, runAt-out}
 use Rattle.rfc9639.specs.Residual.{rice}
-use Rattle.subframe.proofs.Filling.{Filling, begin, step, cut, end}
+use Rattle.subframe.proofs.FilledSlices.{Filling, begin, step, cut, end}
 use Rattle.subframe.proofs.residual.decode_rice.Statement.{statement}
 use Rattle.subframe.proofs.residual.decode_rice.Tie as tie
 

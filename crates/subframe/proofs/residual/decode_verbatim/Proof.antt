@@ -5,14 +5,14 @@ use mathlib.Core.Path.{sym}
 use borrow.Author.Needs.{needs}
 use borrow.Author.Tests.{not-true, not-false}
 use lib.ListN.{length}
-use Rattle.reading.proofs.Running.{inside-in, runAt-out}
-use Rattle.rfc9639.specs.Integers.{sample}
-use Rattle.subframe.proofs.Filling.{Filling, begin, step, cut, end}
+use Rattle.reading.proofs.ByteRuns.{inside-in, runAt-out}
+use Rattle.rfc9639.specs.Integers.{signedBits}
+use Rattle.subframe.proofs.FilledSlices.{Filling, begin, step, cut, end}
 use Rattle.subframe.proofs.residual.decode_verbatim.Statement.{statement}
 use Rattle.subframe.proofs.residual.decode_verbatim.Tie as tie
 
 abbrev Inv-loop : tie.InvT-loop
-Inv-loop s width out₀ p₀ i₀ out p i = Filling (sample width) s p₀ out₀ out i p
+Inv-loop s width out₀ p₀ i₀ out p i = Filling (signedBits width) s p₀ out₀ out i p
 
 abbrev μ-loop : tie.MeasureT-loop
 μ-loop s width out₀ p₀ i₀ out p i = length out₀ - i

@@ -2,7 +2,7 @@
 use native.Mathlib.Omega.{arith}
 use borrow.Author.Needs.{needs}
 use Rattle.rfc9639.specs.Residual.{folded}
-use Rattle.subframe.proofs.Sampling.{joined-fits}
+use Rattle.subframe.proofs.SampleReaders.{folded-fits}
 use Rattle.subframe.proofs.residual.folded.Statement.{statement}
 use Rattle.subframe.proofs.residual.folded.Tie as tie
 
@@ -10,14 +10,14 @@ shl-result : tie.Need-shl-result
 shl-result c = search needs
 
 add-result : tie.Need-add-result
-add-result c = record { fits = omega (arith, joined-fits _ _ _ (c .pre .0) (c .pre .1) (c .pre .2)) }
+add-result c = record { fits = omega (arith, folded-fits _ _ _ (c .pre .0) (c .pre .1) (c .pre .2)) }
 
 cast-result : tie.Need-cast-result
 cast-result c = search needs
 
 returns : tie.Need-returns
 unfolding folded
-returns c = let f = joined-fits _ _ _ (c .pre .0) (c .pre .1) (c .pre .2) in omega (arith, f)
+returns c = let f = folded-fits _ _ _ (c .pre .0) (c .pre .1) (c .pre .2) in omega (arith, f)
 
 pub folded-spec : {M : Type 1} → statement M
 folded-spec = tie.close (tie.spec shl-result add-result cast-result returns)

@@ -1,7 +1,7 @@
 -- `read_rice`: the quotient, the remainder, and the residual of both. Assumes nothing.
 use native.Mathlib.Omega.{arith}
 use borrow.Author.Needs.{needs}
-use Rattle.subframe.proofs.Sampling.{no-quotient, no-remainder, quotient-below, remainder-below, rice-got}
+use Rattle.subframe.proofs.SampleReaders.{quotient-short, remainder-short, quotient-below, remainder-below, rice-got}
 use Rattle.subframe.proofs.residual.read_rice.Statement.{statement}
 use Rattle.subframe.proofs.residual.read_rice.Tie as tie
 
@@ -15,7 +15,7 @@ enum-told : tie.Need-enum-told
 enum-told c = search needs
 
 returns : tie.Need-returns
-returns c = no-quotient _ _ _ (omega arith) (c .before .before .read-unary .ensures) (c .enum-told .given .1)
+returns c = quotient-short _ _ _ (omega arith) (c .before .before .read-unary .ensures) (c .enum-told .given .1)
 
 read-bits-requires : tie.Need-read-bits-requires
 read-bits-requires c κs = search needs
@@ -29,7 +29,7 @@ enum-told-2 c = search needs
 returns-2 : tie.Need-returns-2
 returns-2 c =
     let b = c .before .before in
-    no-remainder _ _ _ (omega arith) (b .before .before .before .before .read-unary .ensures) (b .before .before .high .given .1) (b .read-bits .ensures) (c .enum-told2 .given .1)
+    remainder-short _ _ _ (omega arith) (b .before .before .before .before .read-unary .ensures) (b .before .before .high .given .1) (b .read-bits .ensures) (c .enum-told2 .given .1)
 
 folded-requires : tie.Need-folded-requires
 folded-requires c κs =

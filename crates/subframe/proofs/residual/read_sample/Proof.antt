@@ -1,7 +1,7 @@
 -- `read_sample`: the bits that were read, sign-extended. Assumes nothing.
 use native.Mathlib.Omega.{arith}
 use borrow.Author.Needs.{needs}
-use Rattle.subframe.proofs.Sampling.{no-sample, sample-got}
+use Rattle.subframe.proofs.SampleReaders.{sample-short, sample-got}
 use Rattle.subframe.proofs.residual.read_sample.Statement.{statement}
 use Rattle.subframe.proofs.residual.read_sample.Tie as tie
 
@@ -15,7 +15,7 @@ enum-told : tie.Need-enum-told
 enum-told c = search needs
 
 returns : tie.Need-returns
-returns c = no-sample _ _ _ (omega arith) (c .before .before .read-bits .ensures) (c .enum-told .given .1)
+returns c = sample-short _ _ _ (omega arith) (c .before .before .read-bits .ensures) (c .enum-told .given .1)
 
 sign-extend-requires : tie.Need-sign-extend-requires
 sign-extend-requires c κs = search needs

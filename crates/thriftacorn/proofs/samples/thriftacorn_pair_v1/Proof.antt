@@ -3,7 +3,7 @@ use mathlib.Core.Path.{ap₂, _∙_}
 use mir.Facts.{toZ-ofZ}
 use borrow.Author.Needs.{needs}
 use Rattle.block.specs.Reports.{pairReport}
-use Rattle.thriftacorn.proofs.Reporting.{by-case}
+use Rattle.thriftacorn.proofs.ReportedAnswers.{report-of-case}
 use Rattle.thriftacorn.proofs.samples.thriftacorn_pair_v1.Statement.{statement}
 use Rattle.thriftacorn.proofs.samples.thriftacorn_pair_v1.Tie as tie
 
@@ -22,10 +22,10 @@ number-of-requires c κs = search needs
 returns : tie.Need-returns
 returns c =
     ap₂ (λ x y. record { number = 0; left = x; right = y }) (toZ-ofZ (record { sfits = search needs })) (toZ-ofZ (record { sfits = search needs }))
-    ∙ by-case pairReport (c .before .before .before .pair .ensures) (c .before .answer .given .1)
+    ∙ report-of-case pairReport (c .before .before .before .pair .ensures) (c .before .answer .given .1)
 
 returns-2 : tie.Need-returns-2
-returns-2 c = rw (c .number-of .ensures) (by-case pairReport (c .before .before .before .before .pair .ensures) (c .before .before .answer2 .given .1))
+returns-2 c = rw (c .number-of .ensures) (report-of-case pairReport (c .before .before .before .before .pair .ensures) (c .before .before .answer2 .given .1))
 
 pub thriftacorn-pair-v1-spec : {M : Type 1} → statement M
 thriftacorn-pair-v1-spec =

@@ -1,7 +1,7 @@
 -- The answer of `write_frame`, case by case. Assumes nothing.
 use borrow.Author.Needs.{needs}
 use Rattle.rfc9639.specs.Write.{unwritten}
-use Rattle.thriftacorn.proofs.Reporting.{written}
+use Rattle.thriftacorn.proofs.ReportedAnswers.{outcome-of-case}
 use Rattle.thriftacorn.proofs.write.thriftacorn_write_frame_v1.Statement.{statement}
 use Rattle.thriftacorn.proofs.write.thriftacorn_write_frame_v1.Tie as tie
 
@@ -21,14 +21,14 @@ same-length : tie.Need-same-length
 same-length c = search needs
 
 returns : tie.Need-returns
-returns c = written _ (c .before .before .before .before .before .write-frame .ensures) _ (c .before .answer .given .1)
+returns c = outcome-of-case _ (c .before .before .before .before .before .write-frame .ensures) _ (c .before .answer .given .1)
 
 same-length-2 : tie.Need-same-length-2
 same-length-2 c = search needs
 
 returns-2 : tie.Need-returns-2
 unfolding unwritten
-returns-2 c = rw (c .number-of .ensures) (written _ (c .before .before .before .before .before .before .write-frame .ensures) _ (c .before .before .answer2 .given .1))
+returns-2 c = rw (c .number-of .ensures) (outcome-of-case _ (c .before .before .before .before .before .before .write-frame .ensures) _ (c .before .before .answer2 .given .1))
 
 pub thriftacorn-write-frame-v1-spec : {M : Type 1} → statement M
 thriftacorn-write-frame-v1-spec =

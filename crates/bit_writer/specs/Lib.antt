@@ -1,0 +1,2 @@
+-- What a pen writes.
+pub mod PenWrites

@@ -1,0 +1,6 @@
+-- The laws that the functions' proofs cite.
+pub mod WindowShift
+pub mod FillInvariant
+pub mod StreamHeaders
+pub mod ListedFrames
+pub mod CardTurns

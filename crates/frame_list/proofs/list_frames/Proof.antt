@@ -1,0 +1,100 @@
+-- `frames::list_frames` meets its contract: each step takes a byte and keeps the list the same. Assumes nothing.
+use Prim.Native.Nat.{ℕ, _+_, _-_, _*_, _≤_, _<_}
+use native.Mathlib.Omega.{arith}
+use mathlib.Core.Path.{_≡_, ap, ap₂, sym, _∙_}
+use borrow.Author.Needs.{needs}
+use lib.ListN.{length, drop}
+use Rattle.walk.proofs.NextPlace.{left-length, frame-moves-place, place-in-input, frame-samples-fit}
+use Rattle.frame_list.specs.Listing.{listed}
+use Rattle.frame_list.proofs.ListedFrames.{step-frame, step-refused}
+use Rattle.frame_list.proofs.list_frames.Statement.{statement}
+use Rattle.frame_list.proofs.list_frames.Tie as tie
+
+abbrev Inv-loop : tie.InvT-loop
+Inv-loop bytes base samples₀ place₀ totals₀ samples place totals =
+    (place ≤ length bytes) × (length samples ≡ length samples₀)
+    × (listed (length samples₀) (base + place) totals (drop place bytes) ≡ listed (length samples₀) base totals₀ bytes)
+
+abbrev μ-loop : tie.MeasureT-loop
+μ-loop bytes base samples₀ place₀ totals₀ samples place totals = length bytes - place
+
+loop-holds : tie.Need-loop-holds Inv-loop μ-loop
+loop-holds c =
+    let a = c .before in
+    (omega arith, search needs, ap (λ n. listed (length (a .args .samples .now)) n (a .args .before) (a .args .bytes .now)) (let z : a .args .base + 0 ≡ a .args .base = omega arith in z))
+
+read-next-requires : tie.Need-read-next-requires Inv-loop μ-loop
+read-next-requires c κs = search needs
+
+enum-known-answer : tie.Need-enum-known-answer Inv-loop μ-loop
+enum-known-answer c = search needs
+
+add-frame-line : tie.Need-add-frame-line Inv-loop μ-loop
+add-frame-line c = search needs
+
+frame-line-requires : tie.Need-frame-line-requires Inv-loop μ-loop
+frame-line-requires c κs = search needs
+
+sum-requires : tie.Need-sum-requires Inv-loop μ-loop
+sum-requires c κs = search needs
+
+mul-sum : tie.Need-mul-sum Inv-loop μ-loop
+mul-sum c =
+    let d = c .before .before .before .before .before .before .before in
+    let l = d .before .before in
+    let a = l .before .before in
+    omega (arith, frame-samples-fit (a .args .bytes .now) (l .loop .place) (l .loop .samples) (d .read-next .ensures) (c .before .before .before .before .answer .given .1), a .good .1 .1 .1 .0)
+
+sum-requires-2 : tie.Need-sum-requires-2 Inv-loop μ-loop
+sum-requires-2 c κs = search needs
+
+loop-less : tie.Need-loop-less Inv-loop μ-loop
+loop-less c =
+    let d = c .before .before .before .before .before .before .before .before in
+    let l = d .before .before in
+    let a = l .before .before in
+    omega (arith, frame-moves-place (a .args .bytes .now) (l .loop .place) (l .loop .samples) (d .read-next .ensures) (c .before .before .before .before .before .answer .given .1), place-in-input (a .args .bytes .now) (l .loop .place) (l .loop .samples) (d .read-next .ensures) (c .before .before .before .before .before .answer .given .1))
+
+loop-again : tie.Need-loop-again Inv-loop μ-loop
+loop-again c =
+    let d = c .before .before .before .before .before .before .before .before in
+    let l = d .before .before in
+    let a = l .before .before in
+    (place-in-input (a .args .bytes .now) (l .loop .place) (l .loop .samples) (d .read-next .ensures) (c .before .before .before .before .before .answer .given .1), left-length (a .args .bytes .now) (l .loop .place) (l .loop .samples) (d .read-next .ensures) ∙ l .loop .inv .1, ap₂ (λ f n. listed (length (a .args .samples .now)) (a .args .base + d .read-next .result .place) (record { frames = f; samples = n }) (drop (d .read-next .result .place) (a .args .bytes .now))) (c .before .before .sum .ensures) (c .sum2 .ensures) ∙ sym (step-frame (a .args .bytes .now) (length (a .args .samples .now)) (a .args .base) (l .loop .place) (l .loop .inv .1) (d .read-next .ensures) (l .loop .totals) (c .before .before .before .before .before .answer .given .1)) ∙ l .loop .inv .2)
+
+enum-known-answer-2 : tie.Need-enum-known-answer-2 Inv-loop μ-loop
+enum-known-answer-2 c = search needs
+
+same-length : tie.Need-same-length Inv-loop μ-loop
+same-length c =
+    let d = c .before .before .before .before in
+    let l = d .before .before in
+    let a = l .before .before in
+    left-length (a .args .bytes .now) (l .loop .place) (l .loop .samples) (d .read-next .ensures) ∙ l .loop .inv .1
+
+returns : tie.Need-returns Inv-loop μ-loop
+returns c =
+    let d = c .before .before .before .before in
+    let l = d .before .before in
+    let a = l .before .before in
+    record { place-fits = l .loop .inv .0; all = sym (l .loop .inv .2) ∙ step-refused (a .args .bytes .now) (length (a .args .samples .now)) (a .args .base) (l .loop .place) (l .loop .inv .1) (d .read-next .ensures) (l .loop .totals) (c .before .answer2 .given .1) }
+
+pub list-frames-spec : {M : Type 1} → statement M
+list-frames-spec =
+    tie.close
+    (tie.spec
+    Inv-loop
+    μ-loop
+    loop-holds
+    read-next-requires
+    enum-known-answer
+    add-frame-line
+    frame-line-requires
+    sum-requires
+    mul-sum
+    sum-requires-2
+    loop-less
+    loop-again
+    enum-known-answer-2
+    same-length
+    returns)

@@ -1,0 +1,42 @@
+-- What is listed of a card: its frames up to the first refusal, by the definition's answers to all of its bytes.
+use Prim.Native.Nat.{ℕ, _+_, _-_, _*_, _^_, _≤_, min}
+use mathlib.Core.Path.{_≡_}
+use mathlib.Core.List.{List, [], _∷_}
+use lib.Dec.{eqb}
+use lib.ListN.{length}
+use Rattle.reading.specs.Readers.{if_then_else_}
+use Rattle.error.specs.Numbers.{numberOf}
+use Rattle.rfc9639.specs.Read.{Report, Result, result}
+use Rattle.rfc9639.specs.FrameByFrame.{answers}
+use Rattle.frame_list.specs.declared.Totals.{Totals}
+use Rattle.frame_list.specs.declared.Listed.{Listed}
+
+-- the largest number of 64 bits, or n if that is less
+abbrev pub capped : ℕ → ℕ
+capped n = min n 18446744073709551615
+
+-- the totals with one more frame
+abbrev pub withFrame : Totals → ℕ → ℕ → Totals
+withFrame t channels size = record { frames = capped (t .frames + 1); samples = capped (t .samples + channels * size) }
+
+-- The place on the card after the frames, their totals, and the number of the refusal there.
+pub record Listing : Type 0 where
+  pub place : ℕ
+  pub totals : Totals
+  pub number : ℕ
+
+-- what is listed by a list of answers, given the totals up to a place
+unfoldable pub listing : ℕ → Totals → List Result → Listing
+listing place t [] = record { place = place; totals = t; number = 0 }
+listing place t (q ∷ qs) =
+    if eqb (q .report .number) 0 then listing (place + q .report .consumed) (withFrame t (q .report .channels) (q .report .size)) qs
+    else record { place = place; totals = t; number = q .report .number }
+
+-- what is listed of the bytes from a place of the card on, with room for that many samples
+abbrev pub listed : ℕ → ℕ → Totals → List ℕ → Listing
+listed room place t s = listing place t (answers (result (record { room = room })) s)
+
+-- The frames of some bytes, the first of which is at `base` on the card.
+pub record Lists (s : List ℕ) (base : ℕ) (before : Totals) (room : ℕ) (r : Listed) : Type 0 where
+  pub place-fits : r .place ≤ length s
+  pub all : listed room base before s ≡ record { place = base + r .place; totals = r .totals; number = numberOf (r .refusal) }

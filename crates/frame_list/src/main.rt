@@ -1,0 +1,362 @@
+// Lists the frames of a card for people to read. The card is the file that the first argument names, or standard input
+// if there is none. Each frame gets a line; a last line says how many frames and samples there were, and how it ended.
+//
+// The last line starts with one of these words, from which a script can take its status:
+//     ended:     the card ends after a frame
+//     empty:     the card has no bytes
+//     stopped:   something on the card is no frame: the refusal's number and its cause
+//     unread:    the card could not be opened or read: the system's error number
+//     limit:     a limit of this program ended the run, not the card
+// Then comes 'frames N, samples M; ' (M is the sum of channels times block size, but at most 2^64 - 1).
+//
+// The card may have any length: it is read through a window that is refilled. A refusal that more bytes may change is
+// reported only at the end of the card; any other is reported at once. The window makes no difference, which is proved:
+// the run lists what the definition's answers to all of the card's bytes list (`Runs`).
+mod line;
+mod report;
+mod stream;
+mod window;
+
+use error::Need;
+use error::Refusal;
+use frame::ReadAnswer;
+use libc::STDIN_FILENO;
+use stream::Opening;
+use window::Rest;
+ghost use Prim.Native.Nat.{_+_, _^_, _<_, _≤_};
+ghost use mathlib.Core.Path.{_≡_};
+ghost use lib.ListN.{length};
+ghost use Rattle.frame_list.specs.declared.window.Rest.{Rest as RestOf};
+ghost use Rattle.frame_list.specs.Listing.{capped, Lists};
+ghost use Rattle.frame_list.specs.CardProgress.{Sound, Stays, Refills, Turns, Runs};
+
+// How many bytes of the card are in memory at a time. Eight channels of 65,535 verbatim samples of 24 bits take at most
+// 1,572,866.
+pub const WINDOW: usize = 2097152;
+
+// Room for eight channels of 65,535 samples, which no frame exceeds.
+const ROOM: usize = 524280;
+
+// How many frames there were, and how many samples they had.
+pub struct Totals {
+    pub frames: u64,
+    pub samples: u64,
+}
+
+// How far the card has been read: the place on the card of the window's first byte, how many bytes the window holds,
+// what follows them, and the totals of the frames before the window.
+pub struct Card {
+    pub base: u64,
+    pub held: usize,
+    pub rest: Rest,
+    pub totals: Totals,
+}
+
+// The frames in a window: the place after the last one, why no frame was read there, and the totals up to there.
+pub struct Listed {
+    pub place: usize,
+    pub refusal: Refusal,
+    pub totals: Totals,
+}
+
+// How the run ended.
+pub enum How {
+    // The card ends here, after a frame or in the middle of one.
+    Ended(Refusal),
+    // There is no frame here, whatever bytes follow.
+    Refused(Refusal),
+    // A read failed, with the system's error number.
+    Unread(i32),
+    // The bytes from here on fill the window without deciding the answer, and the card goes on.
+    TooLong,
+    // The card goes on past the places that 64 bits can number.
+    TooFar,
+}
+
+// Where the run ended: the window, with the totals up to a place in it; that place; and how.
+pub struct Last {
+    pub card: Card,
+    pub place: usize,
+    pub how: How,
+}
+
+// Whether there is more to read.
+pub enum Turn {
+    On(Card),
+    Over(Last),
+}
+
+// An open card, or the system's error number.
+pub enum Opened {
+    At(i32),
+    Failed(i32),
+}
+
+// A sum that stops at the largest number of 64 bits.
+fn sum(a: u64, b: u64) -> u64
+    ensures { λ r. ⌜ r ≡ capped (a + b) ⌝ }
+{
+    if b <= u64::MAX - a { a + b } else { u64::MAX }
+}
+
+// Lists the frames that are complete within the bytes. The first byte is at `base` on the card.
+fn list_frames(bytes: &[u8], base: u64, before: Totals, samples: &mut [i32]) -> Listed
+    requires { ⌜ base + length (now bytes) < 2 ^ 64 ⌝ }
+    ensures { λ r. ⌜ Lists (now (bytes .entry)) base before (length (now (samples .entry))) r ⌝ }
+{
+    let mut place = 0;
+    let mut totals = before;
+    loop {
+        let step = walk::read_next(bytes, place, samples);
+        let answer = step.answer;
+        match answer {
+            ReadAnswer::Frame(f) => {
+                report::frame_line(base + place as u64, f);
+                totals = Totals {
+                    frames: sum(totals.frames, 1),
+                    samples: sum(totals.samples, (f.channels * f.size) as u64),
+                };
+                place = step.place;
+            }
+            ReadAnswer::Refused(refusal) => {
+                return Listed {
+                    place,
+                    refusal,
+                    totals,
+                };
+            }
+        }
+    }
+}
+
+// What follows on the card when the window is full.
+fn rest_after(fd: i32) -> Rest {
+    let mut one = [0u8; 1];
+    let next = window::fill_to(fd, &mut one, 0, 1);
+    next.rest
+}
+
+// What may be one frame fills the whole window, so `place` is 0 here.
+fn full(card: Card, place: usize, rest: Rest) -> Turn
+    ensures { λ r. ⌜ Stays card place r ⌝ }
+{
+    let totals = card.totals;
+    match rest {
+        Rest::More => Turn::Over(Last {
+            card,
+            place,
+            how: How::TooLong,
+        }),
+        Rest::Ended => Turn::On(Card {
+            base: card.base,
+            held: card.held,
+            rest: Rest::Ended,
+            totals,
+        }),
+        Rest::Failed(error) => Turn::On(Card {
+            base: card.base,
+            held: card.held,
+            rest: Rest::Failed(error),
+            totals,
+        }),
+    }
+}
+
+// Keeps what the window holds from a place on, and reads more of the card after it.
+fn go_on(fd: i32, card: Card, place: usize, e: Refusal, window: &mut [u8]) -> Turn
+    requires { ⌜ Sound card (length (now window)) × (place ≤ card .held) × (card .rest ≡ RestOf.More) ⌝ }
+    ensures { λ r. ⌜ Refills (now (window .entry)) card place e r (now (window .exit)) ⌝ }
+{
+    let room = window.len();
+    let left = card.held - place;
+    if left == room {
+        return full(card, place, rest_after(fd));
+    }
+    let base = card.base + place as u64;
+    if u64::MAX - base < room as u64 {
+        return Turn::Over(Last {
+            card,
+            place,
+            how: How::TooFar,
+        });
+    }
+    let totals = card.totals;
+    window::shift(window, place, card.held);
+    let filled = window::fill_to(fd, window, left, window::next_wanted(left, room));
+    let rest = filled.rest;
+    Turn::On(Card {
+        base,
+        held: filled.held,
+        rest,
+        totals,
+    })
+}
+
+// The frame at this place of the window is not complete.
+fn wait(fd: i32, card: Card, place: usize, e: Refusal, window: &mut [u8]) -> Turn
+    requires { ⌜ Sound card (length (now window)) × (place ≤ card .held) ⌝ }
+    ensures { λ r. ⌜ Refills (now (window .entry)) card place e r (now (window .exit)) ⌝ }
+{
+    let rest = card.rest;
+    match rest {
+        Rest::More => go_on(fd, card, place, e, window),
+        Rest::Ended => Turn::Over(Last {
+            card,
+            place,
+            how: How::Ended(e),
+        }),
+        Rest::Failed(error) => Turn::Over(Last {
+            card,
+            place,
+            how: How::Unread(error),
+        }),
+    }
+}
+
+// Lists the frames in the window, and refills it for those that follow.
+fn advance(fd: i32, card: Card, window: &mut [u8], samples: &mut [i32]) -> Turn
+    requires { ⌜ Sound card (length (now window)) ⌝ }
+    ensures { λ r. ⌜ Turns (length (now (samples .entry))) (now (window .entry)) card r (now (window .exit)) ⌝ }
+{
+    let held = card.held;
+    let listed = list_frames(&window[..held], card.base, card.totals, samples);
+    let place = listed.place;
+    let totals = listed.totals;
+    let refusal = listed.refusal;
+    let rest = card.rest;
+    let read = Card {
+        base: card.base,
+        held,
+        rest,
+        totals,
+    };
+    let need = error::needs(refusal);
+    match need {
+        Need::Wait => wait(fd, read, place, refusal, window),
+        Need::Room => Turn::Over(Last {
+            card: read,
+            place,
+            how: How::Refused(refusal),
+        }),
+        Need::Final => Turn::Over(Last {
+            card: read,
+            place,
+            how: How::Refused(refusal),
+        }),
+    }
+}
+
+// From the card's first byte to where the run ends.
+fn read_card(fd: i32, window: &mut [u8], samples: &mut [i32]) -> Last
+    requires { ⌜ length (now window) < 2 ^ 64 ⌝ }
+    ensures { λ r. ⌜ Runs (length (now (samples .entry))) r (length (now (window .entry))) ⌝ }
+{
+    let mut card = Card {
+        base: 0,
+        held: 0,
+        rest: Rest::More,
+        totals: Totals {
+            frames: 0,
+            samples: 0,
+        },
+    };
+    loop {
+        let turn = advance(fd, card, window, samples);
+        match turn {
+            Turn::On(next) => card = next,
+            Turn::Over(last) => return last,
+        }
+    }
+}
+
+// What a card starts with that does not start with a frame.
+fn read_opening(fd: i32, window: &mut [u8], held: usize) -> Opening
+    requires { ⌜ (held ≤ length (now window)) × (4 ≤ length (now window)) ⌝ }
+{
+    let four = window::fill_to(fd, window, held, 4);
+    let n = four.held;
+    if !stream::is_header(&window[..n]) {
+        return Opening::Other;
+    }
+    let all = window::fill_to(fd, window, n, window.len());
+    let n = all.held;
+    stream::opening_of(&window[..n])
+}
+
+// There is no frame at a place of the card, whatever bytes follow.
+fn refuse(fd: i32, card: Card, at: u64, e: Refusal, window: &mut [u8])
+    requires { ⌜ Sound card (length (now window)) × (4 ≤ length (now window)) ⌝ }
+{
+    let totals = card.totals;
+    if at != 0 {
+        report::refused(totals, at, e, Opening::Other);
+        return;
+    }
+    let opening = read_opening(fd, window, card.held);
+    report::refused(totals, at, e, opening);
+}
+
+// Writes the last line.
+fn write_last_line(fd: i32, last: Last, window: &mut [u8])
+    requires { ⌜ Sound (last .card) (length (now window)) × (last .place ≤ last .card .held) × (4 ≤ length (now window)) ⌝ }
+{
+    let card = last.card;
+    let at = card.base + last.place as u64;
+    let totals = card.totals;
+    let how = last.how;
+    match how {
+        How::Ended(e) => report::ended(totals, at, e),
+        How::Refused(e) => refuse(fd, card, at, e, window),
+        How::Unread(error) => report::unread(totals, card.base + card.held as u64, error),
+        How::TooLong => report::too_long(totals, at),
+        How::TooFar => report::too_far(totals, at),
+    }
+}
+
+fn list_card(fd: i32, window: &mut [u8], samples: &mut [i32])
+    requires { ⌜ (4 ≤ length (now window)) × (length (now window) < 2 ^ 64) ⌝ }
+{
+    let last = read_card(fd, window, samples);
+    write_last_line(fd, last, window);
+}
+
+// Turns the arrays into slices, away from the function that owns them.
+fn list_into(fd: i32, window: &mut [u8; WINDOW], samples: &mut [i32; ROOM]) {
+    list_card(fd, window, samples);
+}
+
+// Opens the card that the first argument names.
+fn open_card() -> Opened {
+    let mut path = io::buffer();
+    let n = os::arg(1, &mut path);
+    let error = os::errno();
+    if error != 0 {
+        return Opened::Failed(error);
+    }
+    let fd = os::open_read(&path[..n]);
+    if fd < 0 {
+        return Opened::Failed(os::errno());
+    }
+    Opened::At(fd)
+}
+
+fn main() {
+    let mut window = [0u8; WINDOW];
+    let mut samples = [0i32; ROOM];
+    if 2 < os::arg_count() {
+        report::two_names();
+        return;
+    }
+    if os::arg_count() < 2 {
+        list_into(STDIN_FILENO, &mut window, &mut samples);
+        return;
+    }
+    let opened = open_card();
+    match opened {
+        Opened::At(fd) => {
+            list_into(fd, &mut window, &mut samples);
+            libc::close(fd);
+        }
+        Opened::Failed(error) => report::unopened(error),
+    }
+}

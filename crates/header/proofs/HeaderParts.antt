@@ -1,0 +1,95 @@
+-- The parts of a header (RFC 9639 section 9.1): what the definition gets for each, by its code. Assumes nothing.
+use Prim.Native.Nat.{ℕ, _+_, _*_, _%_, _^_, _≤_, _<_}
+use native.Mathlib.Nat.{mod-eq-of-lt}
+use native.Mathlib.Omega.{arith}
+use mathlib.Core.Path.{_≡_, refl, ap, sym, _∙_, subst}
+use mathlib.Core.Bool.{Bool, true, false, cond, _||_}
+use mathlib.Core.List.{List}
+use borrow.Author.Tests.{ne-eqb, le-leb, lt-leb}
+use lib.Dec.{leb, ltb, eqb}
+use lib.Pow.{pow-mono}
+use Rattle.reading.specs.declared.Place.{Place}
+use Rattle.reading.specs.Readers.{done, _>>=_, _>>_, bits, require}
+use Rattle.reading.specs.Places.{gotAt, refusedAt, runAt, placeOf}
+use Rattle.reading.proofs.Postconditions.{Meets, holds-at}
+use Rattle.rfc9639.specs.declared.BlockTime.the-variants.{FrameNumber, SampleNumber}
+use Rattle.rfc9639.specs.declared.Codes.{Codes}
+use Rattle.rfc9639.specs.declared.FrameHeader.{FrameHeader}
+use Rattle.rfc9639.specs.Number.{codedNumber}
+use Rattle.rfc9639.specs.HeaderCodes.{blockSize, rateBits}
+use Rattle.rfc9639.specs.Header.{timeOf, codes, blockTime, header}
+use Rattle.demands.proofs.Headers.{Early, CodesInRange, codes-holds, Sound, header-holds}
+use Rattle.header.proofs.ReaderSteps.{check-fails, check-done}
+use Rattle.header.proofs.ByteAlignment.{moves-at, codes-whole}
+
+-- ---- the coded number and its limit
+
+module _ (blocking : ℕ) (s : List ℕ) (at : Place) {number : ℕ} {q : Place} (e : runAt codedNumber s at ≡ gotAt number q) where
+  numberAllowed : Bool
+  numberAllowed = eqb blocking 1 || leb number 2147483647
+
+  pub frame-number-refused : blocking ≡ 0 → 2147483647 < number → runAt (blockTime blocking) s at ≡ refusedAt 5
+  unfolding blockTime
+  frame-number-refused f l = check-fails codedNumber s at (λ n. eqb blocking 1 || leb n 2147483647) 5 e (λ n. done (timeOf blocking n)) (rw (f, lt-leb _ _ l))
+
+  time-got : numberAllowed ≡ true → runAt (blockTime blocking) s at ≡ gotAt (timeOf blocking number) q
+  unfolding blockTime numberAllowed
+  time-got f = check-done codedNumber s at (λ n. eqb blocking 1 || leb n 2147483647) 5 e (timeOf blocking) f
+
+  pub frame-time : blocking ≡ 0 → number ≤ 2147483647 → runAt (blockTime blocking) s at ≡ gotAt (FrameNumber number) q
+  unfolding timeOf numberAllowed
+  frame-time f l = time-got (rw (f, le-leb _ _ l)) ∙ rw f
+
+  pub sample-time : blocking ≡ 1 → runAt (blockTime blocking) s at ≡ gotAt (SampleNumber number) q
+  unfolding timeOf numberAllowed
+  sample-time f = time-got (rw f) ∙ rw f
+
+-- ---- the size and the rate, by their codes
+
+module _ {code : ℕ} where
+  pub size-first : code ≡ 1 → blockSize code ≡ done 192
+  unfolding blockSize
+  size-first f = rw f
+
+  pub size-low : (code ≡ 1 → ⊥) → code ≤ 5 → blockSize code ≡ done (144 * 2 ^ code % 2 ^ 64)
+  unfolding blockSize
+  size-low f l =
+      rw (ne-eqb _ _ f, le-leb _ _ l) (ap done (sym (mod-eq-of-lt (omega (arith, pow-mono {i = code} {j = 5} l)))))
+
+  pub size-8 : code ≡ 6 → blockSize code ≡ bits 8 >>= (λ v. done (v + 1))
+  unfolding blockSize
+  size-8 f = rw f
+
+  pub size-16 : code ≡ 7 → blockSize code ≡ bits 16 >>= (λ v. require (ltb v 65535) 4 >> done (v + 1))
+  unfolding blockSize
+  size-16 f = rw f
+
+  pub size-high : 7 < code → code < 16 → blockSize code ≡ done (1 * 2 ^ code % 2 ^ 64)
+  unfolding blockSize
+  size-high f l =
+      rw (ne-eqb code 1 (λ e. omega arith), lt-leb code 5 (omega arith), ne-eqb code 6 (λ e. omega arith), ne-eqb code 7 (λ e. omega arith))
+      (ap done (let few = pow-mono {i = code} {j = 15} (omega arith) in sym (mod-eq-of-lt (omega arith) ∙ omega arith)))
+
+pub rate-few : (code : ℕ) → rateBits code ≤ 16
+unfolding rateBits
+rate-few code = go (eqb code 12) (eqb code 13) (eqb code 14)
+  where
+    go : (a b c : Bool) → cond a 8 (cond b 16 (cond c 16 0)) ≤ 16
+    go true b c = omega arith
+    go false true c = omega arith
+    go false false true = omega arith
+    go false false false = omega arith
+
+-- ---- the first four bytes
+
+module _ (s : List ℕ) {c : Codes} {p : Place} (e : runAt codes s (placeOf 0) ≡ gotAt c p) where
+  pub codes-coded : CodesInRange c
+  codes-coded = subst (Meets Early CodesInRange) e (holds-at Early CodesInRange s (placeOf 0) codes-holds)
+
+  pub codes-aligned : p .bit ≡ 0
+  codes-aligned = moves-at s codes (placeOf 0) codes-whole refl e
+
+-- ---- a header that was read, for the reader of its frame
+
+pub header-sound : (s : List ℕ) {h : FrameHeader} {p : Place} → runAt header s (placeOf 0) ≡ gotAt h p → Sound h
+header-sound s e = subst (Meets Early Sound) e (holds-at Early Sound s (placeOf 0) header-holds)

@@ -1,0 +1,3 @@
+-- The result of writing a header.
+pub mod HeaderResult
+pub mod Private

@@ -1,3 +1,0 @@
--- The result of writing a header.
-pub mod Heads
-pub mod Private

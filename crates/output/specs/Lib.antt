@@ -1,2 +1,0 @@
--- What a pen writes.
-pub mod Ink

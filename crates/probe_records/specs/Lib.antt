@@ -1,0 +1,2 @@
+-- Numbers as bytes, lowest byte first.
+pub mod LittleEndian

@@ -1,0 +1,68 @@
+// Numbers as bytes, lowest byte first, for the records of `runner` and the probe programs. Each function answers on
+// every argument.
+ghost use mathlib.Core.Path.{_≡_};
+ghost use mathlib.Core.List.{_∷_, _++_};
+ghost use Prim.Native.Nat.{_+_, _*_, _%_};
+ghost use Rattle.rfc9639.specs.Integers.{low, wrapped};
+ghost use lib.IntN.{pos};
+ghost use Rattle.probe_records.specs.LittleEndian.{little};
+
+// The low byte.
+fn low_byte(v: u64) -> u8
+    ensures { λ r. ⌜ r ≡ v % 256 ⌝ }
+{
+    (v % 256) as u8
+}
+
+// The start of a frame's record: its first byte, the bytes consumed, the number of the first sample, the channels, the
+// bits and the block size.
+pub fn report(kind: u8, consumed: u64, first: u64, channels: u64, bits: u64, size: u64) -> [u8; 17]
+    ensures { λ r. ⌜ r ≡ kind ∷ (little 4 consumed ++ (little 8 first ++ (little 1 channels ++ (little 1 bits ++ little 2 size)))) ⌝ }
+{
+    [
+        kind,
+        low_byte(consumed),
+        low_byte(consumed / 256),
+        low_byte(consumed / 256 / 256),
+        low_byte(consumed / 256 / 256 / 256),
+        low_byte(first),
+        low_byte(first / 256),
+        low_byte(first / 256 / 256),
+        low_byte(first / 256 / 256 / 256),
+        low_byte(first / 256 / 256 / 256 / 256),
+        low_byte(first / 256 / 256 / 256 / 256 / 256),
+        low_byte(first / 256 / 256 / 256 / 256 / 256 / 256),
+        low_byte(first / 256 / 256 / 256 / 256 / 256 / 256 / 256),
+        low_byte(channels),
+        low_byte(bits),
+        low_byte(size),
+        low_byte(size / 256),
+    ]
+}
+
+// The four bytes of a sample.
+pub fn sample(x: i32) -> [u8; 4]
+    ensures { λ r. ⌜ r ≡ little 4 (low 32 x) ⌝ }
+{
+    let v = signed::low_bits(x as i64, 32);
+    [
+        low_byte(v),
+        low_byte(v / 256),
+        low_byte(v / 256 / 256),
+        low_byte(v / 256 / 256 / 256),
+    ]
+}
+
+// The number in four bytes.
+pub fn number_of(a: u8, b: u8, c: u8, d: u8) -> u64
+    ensures { λ r. ⌜ r ≡ a + 256 * (b + 256 * (c + 256 * d)) ⌝ }
+{
+    a as u64 + 256 * (b as u64 + 256 * (c as u64 + 256 * (d as u64)))
+}
+
+// The sample in four bytes.
+pub fn sample_of(a: u8, b: u8, c: u8, d: u8) -> i32
+    ensures { λ r. ⌜ r ≡ wrapped 32 (pos (a + 256 * (b + 256 * (c + 256 * d)))) ⌝ }
+{
+    number::low32(signed::sign_extend(number_of(a, b, c, d), 32))
+}

@@ -1,2 +1,0 @@
--- Numbers as bytes, lowest byte first.
-pub mod Little

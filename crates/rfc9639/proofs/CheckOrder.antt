@@ -1,0 +1,106 @@
+-- The order of the checks: inputs on which another order would give another number or another buffer. Assumes nothing.
+use Prim.Native.Nat.{ℕ, _-_}
+use mathlib.Core.Path.{_≡_, refl}
+use mathlib.Core.List.{List, [], _++_}
+use lib.IntN.{pos}
+use lib.ListN.{replicate}
+use Rattle.rfc9639.specs.Read.{refusal, read}
+use Rattle.rfc9639.proofs.Evaluation.{hex, computed}
+
+-- refused with number n, and the buffer of sevens is untouched
+abbrev refuses : List ℕ → ℕ → ℕ → Type 0
+refuses s room n = read s (replicate room (pos 7)) ≡ record { report = refusal n; buffer = replicate room (pos 7) }
+
+-- refused with number n, and the first samples are zero
+abbrev clears : List ℕ → ℕ → ℕ → ℕ → Type 0
+clears s room places n = read s (replicate room (pos 7)) ≡ record { report = refusal n; buffer = replicate places (pos 0) ++ replicate (room - places) (pos 7) }
+
+pub record Ordered : Type 0 where
+  pub empty : refuses [] 2 1
+  -- one byte alone is never refused
+  pub one-byte : refuses (hex 1 0xff) 2 2
+  pub two-bytes : refuses (hex 2 0xfff8) 2 2
+  -- the sync bits are checked once two bytes are there
+  pub not-sync : refuses (hex 2 0xf8ff) 2 3
+  pub reserved-sync : refuses (hex 2 0xfffa) 2 3
+  pub size-code-0 : refuses (hex 3 0xfff800) 2 4
+  pub rate-code-15 : refuses (hex 3 0xfff81f) 2 4
+  -- in the fourth byte: channels, bit depth, zero bit
+  pub channels-before-bits : refuses (hex 4 0xfff810be) 2 4
+  pub bits-before-zero-bit : refuses (hex 4 0xfff8100f) 2 8
+  pub bits-code-3 : refuses (hex 4 0xfff81006) 2 4
+  pub zero-bit : refuses (hex 4 0xfff81009) 2 4
+  pub number-byte-by-byte : refuses (hex 5 0xfff81008c2) 2 2
+  pub number-ff : refuses (hex 5 0xfff81008ff) 2 5
+  -- a frame number's limit is checked at its last byte
+  pub limit-not-yet : refuses (hex 10 0xfff86008fe828080_8080) 2 2
+  pub limit : refuses (hex 11 0xfff86008fe828080_808080) 2 5
+  pub size-65535 : refuses (hex 7 0xfff8700800ffff) 2 4
+  -- the CRC-8, then bit depth code 0, then the room
+  pub sum-before-stream-bits : refuses (hex 7 0xfff860000000eb) 2 6
+  pub stream-bits-before-room : refuses (hex 7 0xfff860000000ea) 0 8
+  pub no-room : refuses (hex 12 0xfff860080000bb00_0005483c) 0 7
+  pub room-before-subframe : refuses (hex 7 0xfff860080000bb) 0 7
+  pub header-alone : refuses (hex 7 0xfff860080000bb) 2 2
+  -- from the first bit of the first subframe on, the first N are zero
+  pub first-bit : clears (hex 8 0xfff860080000bb80) 2 1 4
+  pub reserved-type : clears (hex 8 0xfff860080000bb04) 2 1 4
+  pub type-then-cut : clears (hex 8 0xfff860080000bb03) 2 1 2
+  -- as many wasted bits as a sample has, or more
+  pub all-wasted : clears (hex 10 0xfff860080000bb03_0001) 2 1 9
+  pub wasted-over-31 : clears (hex 12 0xfff860080000bb03_00000001) 2 1 9
+  -- zeros without a one that ends them are cut short, however many
+  pub wasted-unended : clears (hex 14 0xfff860080000bb03_000000000000) 2 1 2
+  -- a predictor order above the block size is refused before any warm-up bit is read
+  pub order-over-size : clears (hex 8 0xfff860080000bb14) 2 1 9
+  pub precision-15 : clears (hex 10 0xfff8600200033540_01f0) 4 4 4
+  pub negative-shift : clears (hex 11 0xfff8600200033540_013800) 4 4 8
+  -- the method before the partition order
+  pub method-2 : clears (hex 9 0xfff8600200033510_bc) 4 4 4
+  pub no-multiple : clears (hex 9 0xfff8600200023210_04) 4 3 9
+  pub warm-up-over-partition : clears (hex 11 0xfff8600200033514_010208) 4 4 9
+  -- the escape parameter is refused even in a partition without residuals
+  pub parameter-15-of-none : clears (hex 12 0xfff8600200013b14_010203c0) 4 2 8
+  pub frame-sum : clears (hex 12 0xfff860080000bb00_0005483d) 2 1 10
+  pub sum-cut : clears (hex 11 0xfff860080000bb00_000548) 2 1 2
+
+pub ordered : Ordered
+unfolding computed
+ordered = record {
+  empty = refl;
+  one-byte = refl;
+  two-bytes = refl;
+  not-sync = refl;
+  reserved-sync = refl;
+  size-code-0 = refl;
+  rate-code-15 = refl;
+  channels-before-bits = refl;
+  bits-before-zero-bit = refl;
+  bits-code-3 = refl;
+  zero-bit = refl;
+  number-byte-by-byte = refl;
+  number-ff = refl;
+  limit-not-yet = refl;
+  limit = refl;
+  size-65535 = refl;
+  sum-before-stream-bits = refl;
+  stream-bits-before-room = refl;
+  no-room = refl;
+  room-before-subframe = refl;
+  header-alone = refl;
+  first-bit = refl;
+  reserved-type = refl;
+  type-then-cut = refl;
+  all-wasted = refl;
+  wasted-over-31 = refl;
+  wasted-unended = refl;
+  order-over-size = refl;
+  precision-15 = refl;
+  negative-shift = refl;
+  method-2 = refl;
+  no-multiple = refl;
+  warm-up-over-partition = refl;
+  parameter-15-of-none = refl;
+  frame-sum = refl;
+  sum-cut = refl;
+}

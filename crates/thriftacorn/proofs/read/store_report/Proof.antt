@@ -1,0 +1,27 @@
+-- What an answer reports, case by case. Assumes nothing.
+use mathlib.Core.Path.{ap, sym}
+use borrow.Author.Needs.{needs}
+use Rattle.rfc9639.specs.Read.{refusal}
+use Rattle.frame.specs.Reads.{reportOf}
+use Rattle.thriftacorn.proofs.read.store_report.Statement.{statement}
+use Rattle.thriftacorn.proofs.read.store_report.Tie as tie
+
+enum-known-answer : tie.Need-enum-known-answer
+enum-known-answer c = search needs
+
+enum-known-answer-2 : tie.Need-enum-known-answer-2
+enum-known-answer-2 c = search needs
+
+number-of-requires : tie.Need-number-of-requires
+number-of-requires c κs = search needs
+
+returns : tie.Need-returns
+returns c = ap reportOf (sym (c .before .answer .given .1))
+
+returns-2 : tie.Need-returns-2
+unfolding refusal
+returns-2 c = rw (c .number-of .ensures) (ap reportOf (sym (c .before .before .answer2 .given .1)))
+
+pub store-report-spec : {M : Type 1} → statement M
+store-report-spec =
+    tie.close (tie.spec enum-known-answer enum-known-answer-2 number-of-requires returns returns-2)
