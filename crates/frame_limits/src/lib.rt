@@ -11,7 +11,7 @@ ghost use Rattle.rfc9639.specs.Write.{writable, numberLimit, allowed, lanes as 
 ghost use Rattle.frame_limits.specs.Longest.{longestOf};
 
 // The channels of a code of RFC 9639 section 9.1.3.
-pub fn channel_count(code: u32) -> usize
+pub fn channels_of_code(code: u32) -> usize
     ensures { λ r. ⌜ r ≡ channelCount (assignment code) ⌝ }
 {
     header_codes::channel_count(header_codes::channel_assignment(code as u64))
@@ -73,7 +73,7 @@ pub fn is_allowed(set: FrameSetting, count: usize) -> bool
     if number_limit(blocking) < number {
         return false;
     }
-    count == channel_count(channels) * size
+    count == channels_of_code(channels) * size
 }
 
 // The most bits that a frame's subframes take. A side channel is one bit wider.
@@ -82,7 +82,7 @@ fn most_bits(channels: u32, bits: u32, size: usize) -> usize
     ensures { λ r. ⌜ (r ≡ mostBits bits size (lanesOf (assignment channels))) × (r ≤ 2 ^ 24) ⌝ }
 {
     let each = 8 + size * bits as usize;
-    let all = channel_count(channels) * each;
+    let all = channels_of_code(channels) * each;
     if channels < 8 { all } else { all + size }
 }
 
@@ -102,7 +102,7 @@ pub fn longest(channels: u32, bits: u32, blocking: u32, number: u64, size: usize
     if LARGEST_BLOCK_SIZE < size {
         return 0;
     }
-    let count = channel_count(channels) * size;
+    let count = channels_of_code(channels) * size;
     if !is_allowed(set, count) {
         return 0;
     }

@@ -2,7 +2,7 @@
 // frame too long for the output leaves it as it was.
 use super::lane::lane_of;
 use super::lane::lane_width;
-use frame_limits::channel_count;
+use frame_limits::channels_of_code;
 use rfc9639::Candidate;
 use rfc9639::FrameSetting;
 use subframe_choice::Choice;
@@ -36,7 +36,7 @@ pub fn plan_frame(samples: &[i32], set: FrameSetting) -> FramePlan
     ensures { λ r. ⌜ Plans set (now (samples .entry)) (r .choices) (r .bits) ⌝ }
 {
     let channels = set.channels;
-    let count = channel_count(channels);
+    let count = channels_of_code(channels);
     let none = Choice {
         candidate: Candidate::Verbatim,
         bits: 0,

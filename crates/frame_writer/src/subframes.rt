@@ -2,7 +2,7 @@
 use super::lane::lane_of;
 use super::lane::lane_width;
 use bit_writer::Pen;
-use frame_limits::channel_count;
+use frame_limits::channels_of_code;
 use rfc9639::Candidate;
 use rfc9639::FrameSetting;
 use subframe_choice::Choice;
@@ -45,7 +45,7 @@ pub fn write_subframes(
     ensures { λ r. ⌜ Writes (subframesBits set (now (samples .entry))) pen (now (out .entry)) r (now (out .exit)) ⌝ }
 {
     let channels = set.channels;
-    let count = channel_count(channels);
+    let count = channels_of_code(channels);
     let mut p = pen;
     let mut c = 0;
     while c < count {

@@ -16,7 +16,7 @@ fn low_byte(v: u64) -> u8
 
 // The start of a frame's record: its first byte, the bytes consumed, the number of the first sample, the channels, the
 // bits and the block size.
-pub fn report(kind: u8, consumed: u64, first: u64, channels: u64, bits: u64, size: u64) -> [u8; 17]
+pub fn report_bytes(kind: u8, consumed: u64, first: u64, channels: u64, bits: u64, size: u64) -> [u8; 17]
     ensures { λ r. ⌜ r ≡ kind ∷ (little 4 consumed ++ (little 8 first ++ (little 1 channels ++ (little 1 bits ++ little 2 size)))) ⌝ }
 {
     [
@@ -41,7 +41,7 @@ pub fn report(kind: u8, consumed: u64, first: u64, channels: u64, bits: u64, siz
 }
 
 // The four bytes of a sample.
-pub fn sample(x: i32) -> [u8; 4]
+pub fn sample_bytes(x: i32) -> [u8; 4]
     ensures { λ r. ⌜ r ≡ little 4 (low 32 x) ⌝ }
 {
     let v = signed::low_bits(x as i64, 32);
@@ -54,15 +54,15 @@ pub fn sample(x: i32) -> [u8; 4]
 }
 
 // The number in four bytes.
-pub fn number_of(a: u8, b: u8, c: u8, d: u8) -> u64
+pub fn number_from_bytes(a: u8, b: u8, c: u8, d: u8) -> u64
     ensures { λ r. ⌜ r ≡ a + 256 * (b + 256 * (c + 256 * d)) ⌝ }
 {
     a as u64 + 256 * (b as u64 + 256 * (c as u64 + 256 * (d as u64)))
 }
 
 // The sample in four bytes.
-pub fn sample_of(a: u8, b: u8, c: u8, d: u8) -> i32
+pub fn sample_from_bytes(a: u8, b: u8, c: u8, d: u8) -> i32
     ensures { λ r. ⌜ r ≡ wrapped 32 (pos (a + 256 * (b + 256 * (c + 256 * d)))) ⌝ }
 {
-    number::low32(signed::sign_extend(number_of(a, b, c, d), 32))
+    number::low32(signed::sign_extend(number_from_bytes(a, b, c, d), 32))
 }

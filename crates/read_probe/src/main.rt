@@ -11,14 +11,14 @@ ghost use Prim.Native.Nat.{_≤_};
 ghost use lib.ListN.{length};
 
 fn write_refusal(number: u8) {
-    let bytes = probe_records::report(number, 0, 0, 0, 0, 0);
+    let bytes = probe_records::report_bytes(number, 0, 0, 0, 0, 0);
     io::write_all(STDOUT_FILENO, &bytes);
 }
 
 fn write_answer(answer: ReadAnswer) {
     match answer {
         ReadAnswer::Frame(f) => {
-            let bytes = probe_records::report(
+            let bytes = probe_records::report_bytes(
                 0,
                 f.consumed as u64,
                 f.first,
@@ -38,7 +38,7 @@ fn write_samples(samples: &[i32])
     let mut out = [0u8; 262144];
     let mut i = 0;
     while i < samples.len() {
-        let b = probe_records::sample(samples[i]);
+        let b = probe_records::sample_bytes(samples[i]);
         out[4 * i] = b[0];
         out[4 * i + 1] = b[1];
         out[4 * i + 2] = b[2];
@@ -71,8 +71,8 @@ fn end_of(n: usize) -> usize
 fn run(input: &[u8], n: usize, samples: &mut [i32])
     requires { ⌜ (length (now input) ≡ 32776) × ((n ≤ length (now input)) × (length (now samples) ≡ 65536)) ⌝ }
 {
-    let room = probe_records::number_of(input[0], input[1], input[2], input[3]) as usize;
-    let fill = probe_records::sample_of(input[4], input[5], input[6], input[7]);
+    let room = probe_records::number_from_bytes(input[0], input[1], input[2], input[3]) as usize;
+    let fill = probe_records::sample_from_bytes(input[4], input[5], input[6], input[7]);
     if samples.len() < room {
         write_refusal(11);
         return;

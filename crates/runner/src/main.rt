@@ -9,7 +9,7 @@ ghost use Prim.Native.Nat.{_*_, _≤_};
 ghost use lib.ListN.{length};
 
 fn write_report(f: Accepted) {
-    let bytes = probe_records::report(
+    let bytes = probe_records::report_bytes(
         1,
         f.consumed as u64,
         f.first,
@@ -27,7 +27,7 @@ fn write_samples(samples: &[i32], n: usize)
     let mut out = [2u8; 40960];
     let mut i = 0;
     while i < n {
-        let b = probe_records::sample(samples[i]);
+        let b = probe_records::sample_bytes(samples[i]);
         out[5 * i + 1] = b[0];
         out[5 * i + 2] = b[1];
         out[5 * i + 3] = b[2];

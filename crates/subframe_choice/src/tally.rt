@@ -27,7 +27,7 @@ pub fn quotient_sums(samples: &[i32], source: Source, order: u32, count: usize) 
     let mut sums = [0u64; 15];
     let mut j: usize = 0;
     while j < count {
-        let r = subframe_samples::residual(samples, source, order, j);
+        let r = subframe_samples::fixed_residual(samples, source, order, j);
         let f = signed::fold(r);
         add_quotients(&mut sums, f);
         j += 1;

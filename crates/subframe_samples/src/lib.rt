@@ -55,7 +55,7 @@ pub fn stored_sample(samples: &[i32], source: Source, i: usize) -> i64
 
 // Residual j of a fixed predictor (RFC 9639 section 9.2.5): that of sample order + j. The bound on its size is for
 // callers that add up residuals.
-pub fn residual(samples: &[i32], source: Source, order: u32, j: usize) -> i64
+pub fn fixed_residual(samples: &[i32], source: Source, order: u32, j: usize) -> i64
     ensures { λ r. ⌜ (r ≡ getD (fixedResiduals order (storedBy source (now (samples .entry)))) j (pos 0)) × (natAbs r < 2 ^ 38) ⌝ }
 {
     let warm_up = order as usize;

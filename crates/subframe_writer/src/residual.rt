@@ -30,7 +30,7 @@ fn write_rices(samples: &[i32], source: Source, order: u32, k: u32, out: &mut [u
             out,
             p,
             k,
-            subframe_samples::residual(samples, source, order, j),
+            subframe_samples::fixed_residual(samples, source, order, j),
         );
         j += 1;
     }

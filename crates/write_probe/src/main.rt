@@ -41,7 +41,7 @@ fn decode(bytes: &[u8], samples: &mut [i32])
 {
     let mut i = 0;
     while i < samples.len() {
-        samples[i] = probe_records::sample_of(
+        samples[i] = probe_records::sample_from_bytes(
             bytes[4 * i],
             bytes[4 * i + 1],
             bytes[4 * i + 2],
@@ -55,8 +55,8 @@ fn decode(bytes: &[u8], samples: &mut [i32])
 fn number_of(input: &[u8]) -> u64
     requires { ⌜ length (now input) ≡ 65556 ⌝ }
 {
-    let low = probe_records::number_of(input[3], input[4], input[5], input[6]);
-    let high = probe_records::number_of(input[7], input[8], input[9], input[10]);
+    let low = probe_records::number_from_bytes(input[3], input[4], input[5], input[6]);
+    let high = probe_records::number_from_bytes(input[7], input[8], input[9], input[10]);
     high % 0x1_0000_0000 * 0x1_0000_0000 + low % 0x1_0000_0000
 }
 
@@ -71,8 +71,8 @@ fn count_of(n: usize) -> usize
 fn run(input: &[u8], n: usize, samples: &mut [i32], out: &mut [u8])
     requires { ⌜ (length (now input) ≡ 65556) × (n ≤ 65556) × (length (now samples) ≡ 16384) × (length (now out) ≡ 32768) ⌝ }
 {
-    let size = probe_records::number_of(input[11], input[12], input[13], input[14]) as usize;
-    let room = probe_records::number_of(input[15], input[16], input[17], input[18]) as usize;
+    let size = probe_records::number_from_bytes(input[11], input[12], input[13], input[14]) as usize;
+    let room = probe_records::number_from_bytes(input[15], input[16], input[17], input[18]) as usize;
     if out.len() < room {
         write_head(11, 0);
         return;

@@ -38,15 +38,15 @@ returns-6 : tie.Need-returns-6
 unfolding allowed
 returns-6 c = rw (le-leb _ _ (c .before .before .before .before .before .before .before .if1 .left), sym (c .before .before .before .before .before .before .is-writable .ensures) ∙ not-false _ (c .before .before .before .before .before .if2 .left), le-leb _ _ (c .before .before .before .before .if3 .left), nonzero-ltb (c .before .before .before .if4 .left), le-leb _ _ (c .before .before .if5 .left), sym (c .before .number-limit .ensures), lt-leb _ _ (c .if6 .taken)) refl
 
-channel-count-requires : tie.Need-channel-count-requires
-channel-count-requires c κs = search needs
+channels-of-code-requires : tie.Need-channels-of-code-requires
+channels-of-code-requires c κs = search needs
 
 mul-result : tie.Need-mul-result
-mul-result c = record { fits = count-fits _ _ (rw (c .channel-count .ensures) (channels-between _ .1)) (c .before .before .before .if5 .left) }
+mul-result c = record { fits = count-fits _ _ (rw (c .channels-of-code .ensures) (channels-between _ .1)) (c .before .before .before .if5 .left) }
 
 returns-7 : tie.Need-returns-7
 unfolding allowed
-returns-7 c = rw (le-leb _ _ (c .before .before .before .before .before .before .before .before .if1 .left), sym (c .before .before .before .before .before .before .before .is-writable .ensures) ∙ not-false _ (c .before .before .before .before .before .before .if2 .left), le-leb _ _ (c .before .before .before .before .before .if3 .left), nonzero-ltb (c .before .before .before .before .if4 .left), le-leb _ _ (c .before .before .before .if5 .left), sym (c .before .before .number-limit .ensures), le-leb _ _ (c .before .if6 .left), c .channel-count .ensures) refl
+returns-7 c = rw (le-leb _ _ (c .before .before .before .before .before .before .before .before .if1 .left), sym (c .before .before .before .before .before .before .before .is-writable .ensures) ∙ not-false _ (c .before .before .before .before .before .before .if2 .left), le-leb _ _ (c .before .before .before .before .before .if3 .left), nonzero-ltb (c .before .before .before .before .if4 .left), le-leb _ _ (c .before .before .before .if5 .left), sym (c .before .before .number-limit .ensures), le-leb _ _ (c .before .if6 .left), c .channels-of-code .ensures) refl
 
 pub is-allowed-spec : {M : Type 1} → statement M
 is-allowed-spec =
@@ -60,6 +60,6 @@ is-allowed-spec =
     returns-5
     number-limit-requires
     returns-6
-    channel-count-requires
+    channels-of-code-requires
     mul-result
     returns-7)

@@ -20,17 +20,17 @@ returns c = sym (longest-none _ (too-large _ (c .if1 .taken)))
 abbrev setOf : (c : tie.After-is-allowed) → FrameSetting
 setOf c = let s = c .before .before .before .args in record { channels = s .channels; bits = s .bits; blocking = s .blocking; number = s .number; size = s .size }
 
-channel-count-requires : tie.Need-channel-count-requires
-channel-count-requires c κs = search needs
+channels-of-code-requires : tie.Need-channels-of-code-requires
+channels-of-code-requires c κs = search needs
 
 mul-count : tie.Need-mul-count
-mul-count c = record { fits = count-fits _ _ (rw (c .channel-count .ensures) (channels-between _ .1)) (c .before .if1 .left) }
+mul-count c = record { fits = count-fits _ _ (rw (c .channels-of-code .ensures) (channels-between _ .1)) (c .before .if1 .left) }
 
 is-allowed-requires : tie.Need-is-allowed-requires
 is-allowed-requires c κs = search needs
 
 settled : (c : tie.After-is-allowed) → allowed (setOf c) (wanted (setOf c)) ≡ c .is-allowed .result
-settled c = ap (λ m. allowed (setOf c) (m * setOf c .size)) (sym (c .before .channel-count .ensures)) ∙ sym (c .is-allowed .ensures)
+settled c = ap (λ m. allowed (setOf c) (m * setOf c .size)) (sym (c .before .channels-of-code .ensures)) ∙ sym (c .is-allowed .ensures)
 
 returns-2 : tie.Need-returns-2
 returns-2 c = sym (longest-none _ (settled (c .before) ∙ not-true _ (c .if2 .taken)))
@@ -56,7 +56,7 @@ longest-spec =
     tie.close
     (tie.spec
     returns
-    channel-count-requires
+    channels-of-code-requires
     mul-count
     is-allowed-requires
     returns-2

@@ -19,8 +19,8 @@ shared-slice-read-number-of-3 c = search needs
 shared-slice-read-number-of-4 : tie.Need-shared-slice-read-number-of-4
 shared-slice-read-number-of-4 c = search needs
 
-number-of-requires : tie.Need-number-of-requires
-number-of-requires c κs = search needs
+number-from-bytes-requires : tie.Need-number-from-bytes-requires
+number-from-bytes-requires c κs = search needs
 
 shared-slice-read-sample-of : tie.Need-shared-slice-read-sample-of
 shared-slice-read-sample-of c = search needs
@@ -34,8 +34,8 @@ shared-slice-read-sample-of-3 c = search needs
 shared-slice-read-sample-of-4 : tie.Need-shared-slice-read-sample-of-4
 shared-slice-read-sample-of-4 c = search needs
 
-sample-of-requires : tie.Need-sample-of-requires
-sample-of-requires c κs = search needs
+sample-from-bytes-requires : tie.Need-sample-from-bytes-requires
+sample-from-bytes-requires c κs = search needs
 
 write-refusal-requires : tie.Need-write-refusal-requires
 write-refusal-requires c κs = search needs
@@ -78,12 +78,12 @@ run-spec =
     shared-slice-read-number-of-2
     shared-slice-read-number-of-3
     shared-slice-read-number-of-4
-    number-of-requires
+    number-from-bytes-requires
     shared-slice-read-sample-of
     shared-slice-read-sample-of-2
     shared-slice-read-sample-of-3
     shared-slice-read-sample-of-4
-    sample-of-requires
+    sample-from-bytes-requires
     write-refusal-requires
     returns
     end-of-requires

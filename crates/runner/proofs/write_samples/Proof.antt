@@ -22,8 +22,8 @@ mul-sample c = search needs
 shared-slice-copy-out-sample : tie.Need-shared-slice-copy-out-sample Inv-loop μ-loop
 shared-slice-copy-out-sample c = search needs
 
-sample-requires : tie.Need-sample-requires Inv-loop μ-loop
-sample-requires c κs = search needs
+sample-bytes-requires : tie.Need-sample-bytes-requires Inv-loop μ-loop
+sample-bytes-requires c κs = search needs
 
 array-read-out : tie.Need-array-read-out Inv-loop μ-loop
 array-read-out c = search needs
@@ -106,7 +106,7 @@ write-samples-spec =
     loop-holds
     mul-sample
     shared-slice-copy-out-sample
-    sample-requires
+    sample-bytes-requires
     array-read-out
     mul-out
     add-out

@@ -48,8 +48,8 @@ add-sample-of-3 c = search needs
 shared-slice-read-sample-of-4 : tie.Need-shared-slice-read-sample-of-4 Inv-loop μ-loop
 shared-slice-read-sample-of-4 c = search needs
 
-sample-of-requires : tie.Need-sample-of-requires Inv-loop μ-loop
-sample-of-requires c κs = search needs
+sample-from-bytes-requires : tie.Need-sample-from-bytes-requires Inv-loop μ-loop
+sample-from-bytes-requires c κs = search needs
 
 mul-t21 : tie.Need-mul-t21 Inv-loop μ-loop
 mul-t21 c = search needs
@@ -90,7 +90,7 @@ decode-spec =
     mul-sample-of-4
     add-sample-of-3
     shared-slice-read-sample-of-4
-    sample-of-requires
+    sample-from-bytes-requires
     mul-t21
     slice-set-from-samples
     add-i

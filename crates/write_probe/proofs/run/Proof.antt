@@ -19,8 +19,8 @@ shared-slice-read-number-of-3 c = search needs
 shared-slice-read-number-of-4 : tie.Need-shared-slice-read-number-of-4
 shared-slice-read-number-of-4 c = search needs
 
-number-of-requires : tie.Need-number-of-requires
-number-of-requires c κs = search needs
+number-from-bytes-requires : tie.Need-number-from-bytes-requires
+number-from-bytes-requires c κs = search needs
 
 shared-slice-read-number-of-5 : tie.Need-shared-slice-read-number-of-5
 shared-slice-read-number-of-5 c = search needs
@@ -34,8 +34,8 @@ shared-slice-read-number-of-7 c = search needs
 shared-slice-read-number-of-8 : tie.Need-shared-slice-read-number-of-8
 shared-slice-read-number-of-8 c = search needs
 
-number-of-requires-2 : tie.Need-number-of-requires-2
-number-of-requires-2 c κs = search needs
+number-from-bytes-requires-2 : tie.Need-number-from-bytes-requires-2
+number-from-bytes-requires-2 c κs = search needs
 
 write-head-requires : tie.Need-write-head-requires
 write-head-requires c κs = search needs
@@ -100,8 +100,8 @@ shared-slice-read-write-frame-3 c = search needs
 cast-write-frame-3 : tie.Need-cast-write-frame-3
 cast-write-frame-3 c = omega (arith, c .shared-slice-known13 .given 2)
 
-number-of-requires-3 : tie.Need-number-of-requires-3
-number-of-requires-3 c κs = search needs
+number-from-bytes-requires-3 : tie.Need-number-from-bytes-requires-3
+number-from-bytes-requires-3 c κs = search needs
 
 slice-relend-prefix-write-frame : tie.Need-slice-relend-prefix-write-frame
 slice-relend-prefix-write-frame c = search needs
@@ -141,12 +141,12 @@ run-spec =
     shared-slice-read-number-of-2
     shared-slice-read-number-of-3
     shared-slice-read-number-of-4
-    number-of-requires
+    number-from-bytes-requires
     shared-slice-read-number-of-5
     shared-slice-read-number-of-6
     shared-slice-read-number-of-7
     shared-slice-read-number-of-8
-    number-of-requires-2
+    number-from-bytes-requires-2
     write-head-requires
     returns
     count-of-requires
@@ -168,7 +168,7 @@ run-spec =
     cast-write-frame-2
     shared-slice-read-write-frame-3
     cast-write-frame-3
-    number-of-requires-3
+    number-from-bytes-requires-3
     slice-relend-prefix-write-frame
     slice-aggregate-write-frame-2
     write-frame-requires

@@ -19,11 +19,11 @@ Inv-loop samples set channels count choices₀ bits₀ c₀ choices bits c =
 abbrev μ-loop : tie.MeasureT-loop
 μ-loop samples set channels count choices₀ bits₀ c₀ choices bits c = count - c
 
-channel-count-requires : tie.Need-channel-count-requires Inv-loop μ-loop
-channel-count-requires c κs = search needs
+channels-of-code-requires : tie.Need-channels-of-code-requires Inv-loop μ-loop
+channels-of-code-requires c κs = search needs
 
 loop-holds : tie.Need-loop-holds Inv-loop μ-loop
-loop-holds c = (begin _ _ (rw (c .channel-count .ensures) (channels-between _ .1)) _ refl, counted-none _ _ _ _)
+loop-holds c = (begin _ _ (rw (c .channels-of-code .ensures) (channels-between _ .1)) _ refl, counted-none _ _ _ _)
 
 cast-choose-lane : tie.Need-cast-choose-lane Inv-loop μ-loop
 cast-choose-lane c = search needs
@@ -60,7 +60,7 @@ loop-again c =
 
 returns : tie.Need-returns Inv-loop μ-loop
 returns c =
-    let l = c .before in let n = l .before .channel-count .ensures in (
+    let l = c .before in let n = l .before .channels-of-code .ensures in (
       planned-all _ _ _ _ (l .loop .inv .0) (c .loop-test .left) n,
       counted-all _ _ (l .loop .inv .1) (at-end _ _ (l .loop .inv .0) (c .loop-test .left)) n,
       omega (arith, l .loop .inv .0 .few, l .loop .inv .0 .within, l .loop .inv .1 .small),
@@ -72,7 +72,7 @@ plan-frame-spec =
     (tie.spec
     Inv-loop
     μ-loop
-    channel-count-requires
+    channels-of-code-requires
     loop-holds
     cast-choose-lane
     choose-lane-requires

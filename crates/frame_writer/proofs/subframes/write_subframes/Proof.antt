@@ -17,11 +17,11 @@ Inv-loop samples set out₀ choices channels count p₀ c₀ out p c = (count �
 abbrev μ-loop : tie.MeasureT-loop
 μ-loop samples set out₀ choices channels count p₀ c₀ out p c = count - c
 
-channel-count-requires : tie.Need-channel-count-requires Inv-loop μ-loop
-channel-count-requires c κs = search needs
+channels-of-code-requires : tie.Need-channels-of-code-requires Inv-loop μ-loop
+channels-of-code-requires c κs = search needs
 
 loop-holds : tie.Need-loop-holds Inv-loop μ-loop
-loop-holds c = (rw (c .channel-count .ensures) (channels-between _ .1), omega arith, begin _ _)
+loop-holds c = (rw (c .channels-of-code .ensures) (channels-between _ .1), omega arith, begin _ _)
 
 mul-choice : tie.Need-mul-choice Inv-loop μ-loop
 mul-choice c = search needs
@@ -44,7 +44,7 @@ loop-less c = search needs
 loop-again : tie.Need-loop-again Inv-loop μ-loop
 loop-again c =
     let w = c .before .before in let i = w .before .before .before in let l = i .before in let n = l .before in
-    let more : l .loop .c < channelCount (assignment (n .before .before .args .set .channels)) = omega (arith, n .channel-count .ensures) in
+    let more : l .loop .c < channelCount (assignment (n .before .before .args .set .channels)) = omega (arith, n .channels-of-code .ensures) in
     (l .loop .inv .0, omega arith, lane-next _ _ _ _ (l .loop .inv .2) more (planned-at _ _ _ _ _ (n .before .before .pre .1) _ _ more) (w .write-lane .ensures))
 
 same-length : tie.Need-same-length Inv-loop μ-loop
@@ -52,7 +52,7 @@ same-length c = c .before .loop .inv .2 .long
 
 returns : tie.Need-returns Inv-loop μ-loop
 unfolding subframesBits
-returns c = end (c .before .loop .inv .2) (rw (length-lanes _, sym (c .before .before .channel-count .ensures)) (c .loop-test .left))
+returns c = end (c .before .loop .inv .2) (rw (length-lanes _, sym (c .before .before .channels-of-code .ensures)) (c .loop-test .left))
 
 pub write-subframes-spec : {M : Type 1} → statement M
 write-subframes-spec =
@@ -60,7 +60,7 @@ write-subframes-spec =
     (tie.spec
     Inv-loop
     μ-loop
-    channel-count-requires
+    channels-of-code-requires
     loop-holds
     mul-choice
     array-copy-out-choice

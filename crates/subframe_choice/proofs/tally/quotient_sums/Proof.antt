@@ -20,8 +20,8 @@ abbrev μ-loop : tie.MeasureT-loop
 loop-holds : tie.Need-loop-holds Inv-loop μ-loop
 loop-holds c = begin-tally _
 
-residual-requires : tie.Need-residual-requires Inv-loop μ-loop
-residual-requires c κs = search needs
+fixed-residual-requires : tie.Need-fixed-residual-requires Inv-loop μ-loop
+fixed-residual-requires c κs = search needs
 
 fold-requires : tie.Need-fold-requires Inv-loop μ-loop
 fold-requires c κs = search needs
@@ -33,12 +33,12 @@ module _ (c : tie.After-fold Inv-loop μ-loop) where
   abbrev l : tie.At-loop Inv-loop μ-loop
   l = c .before .before .before
 
-  folded : c .fold .result ≡ fold (c .before .residual .result)
-  folded = c .fold .ensures ∙ ap fold (toZ-ofZ (record { sfits = c .before .residual .ok }))
+  folded : c .fold .result ≡ fold (c .before .fixed-residual .result)
+  folded = c .fold .ensures ∙ ap fold (toZ-ofZ (record { sfits = c .before .fixed-residual .ok }))
 
 add-quotients-requires : tie.Need-add-quotients-requires Inv-loop μ-loop
 add-quotients-requires c κs =
-    let d = c .before in let i = l d .loop .inv in let h = few (l d .before) in let e = d .before .residual .ensures in
+    let d = c .before in let i = l d .loop .inv in let h = few (l d .before) in let e = d .before .fixed-residual .ensures in
     (long i h, under i h, folded-small i h (e .0) (e .1) (folded d))
 
 add-j : tie.Need-add-j Inv-loop μ-loop
@@ -49,7 +49,7 @@ loop-less c = search needs
 
 loop-again : tie.Need-loop-again Inv-loop μ-loop
 loop-again c =
-    let d = c .before .before in let e = d .before .residual .ensures in
+    let d = c .before .before in let e = d .before .fixed-residual .ensures in
     step-tally (l d .loop .inv) (few (l d .before)) (e .0) (e .1) (folded d) (omega arith) (c .add-quotients .ensures)
 
 returns : tie.Need-returns Inv-loop μ-loop
@@ -62,7 +62,7 @@ quotient-sums-spec =
     Inv-loop
     μ-loop
     loop-holds
-    residual-requires
+    fixed-residual-requires
     fold-requires
     add-quotients-requires
     add-j

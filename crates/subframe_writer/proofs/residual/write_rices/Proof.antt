@@ -28,8 +28,8 @@ saturating-sub-requires c κs = search needs
 loop-holds : tie.Need-loop-holds Inv-loop μ-loop
 loop-holds c = begin _ _
 
-residual-requires : tie.Need-residual-requires Inv-loop μ-loop
-residual-requires c κs = search needs
+fixed-residual-requires : tie.Need-fixed-residual-requires Inv-loop μ-loop
+fixed-residual-requires c κs = search needs
 
 write-rice-requires : tie.Need-write-rice-requires Inv-loop μ-loop
 write-rice-requires c κs = search needs
@@ -43,7 +43,7 @@ loop-less c = search needs
 loop-again : tie.Need-loop-again Inv-loop μ-loop
 loop-again c =
     let w = c .before .before in let x = w .before in let l = x .before .before .before in
-    step (l .loop .inv) (pos 0) (rw length-fixedResiduals (omega arith)) (toZ-ofZ (record { sfits = x .residual .ok }) ∙ x .residual .ensures .0) (bits-rice _ _)
+    step (l .loop .inv) (pos 0) (rw length-fixedResiduals (omega arith)) (toZ-ofZ (record { sfits = x .fixed-residual .ok }) ∙ x .fixed-residual .ensures .0) (bits-rice _ _)
     (w .write-rice .ensures)
 
 same-length : tie.Need-same-length Inv-loop μ-loop
@@ -61,7 +61,7 @@ write-rices-spec =
     stored-len-requires
     saturating-sub-requires
     loop-holds
-    residual-requires
+    fixed-residual-requires
     write-rice-requires
     add-j
     loop-less

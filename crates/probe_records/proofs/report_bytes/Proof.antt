@@ -2,8 +2,8 @@
 use borrow.Author.Needs.{needs}
 use mathlib.Core.Path.{refl, ap₂}
 use mathlib.Core.List.{_∷_}
-use Rattle.probe_records.proofs.report.Statement.{statement}
-use Rattle.probe_records.proofs.report.Tie as tie
+use Rattle.probe_records.proofs.report_bytes.Statement.{statement}
+use Rattle.probe_records.proofs.report_bytes.Tie as tie
 
 low-byte-requires : tie.Need-low-byte-requires
 low-byte-requires c κs = search needs
@@ -89,8 +89,8 @@ returns c =
     (ap₂ _∷_ (c .low-byte16 .ensures)
     refl))))))))))))))))
 
-pub report-spec : {M : Type 1} → statement M
-report-spec =
+pub report-bytes-spec : {M : Type 1} → statement M
+report-bytes-spec =
     tie.close
     (tie.spec
     low-byte-requires

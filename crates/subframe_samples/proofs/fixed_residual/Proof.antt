@@ -1,4 +1,4 @@
--- `residual` meets its contract: past the end the definition has its default. Assumes nothing.
+-- `fixed_residual` meets its contract: past the end the definition has its default. Assumes nothing.
 use native.Mathlib.Omega.{arith}
 use mathlib.Core.Path.{sym, _∙_}
 use mathlib.Core.List.{List}
@@ -9,8 +9,8 @@ use mir.Val.{SFits}
 use mir.Facts.{toZ-ofZ}
 use Rattle.subframe_samples.specs.Sources.{storedBy}
 use Rattle.subframe_samples.proofs.ResidualsByIndex.{fixedResiduals-at, fixedResiduals-past-end}
-use Rattle.subframe_samples.proofs.residual.Statement.{statement}
-use Rattle.subframe_samples.proofs.residual.Tie as tie
+use Rattle.subframe_samples.proofs.fixed_residual.Statement.{statement}
+use Rattle.subframe_samples.proofs.fixed_residual.Tie as tie
 
 abbrev xs : tie.Start → List ℤ
 xs s = storedBy (s .args .source) (s .args .samples .now)
@@ -36,8 +36,8 @@ returns-2 c =
     let f : SFits w64 (c .residual-at .result) = record { sfits = c .residual-at .ok } in
     rw (toZ-ofZ f) (c .residual-at .ensures .0 ∙ sym (fixedResiduals-at (s .args .order) (xs s) (s .args .j) (omega arith)), c .residual-at .ensures .1)
 
-pub residual-spec : {M : Type 1} → statement M
-residual-spec =
+pub fixed-residual-spec : {M : Type 1} → statement M
+fixed-residual-spec =
     tie.close
     (tie.spec
     stored-len-requires

@@ -5,8 +5,8 @@ use mathlib.Core.List.{_∷_}
 use Rattle.rfc9639.proofs.MachineIntegers.{widened, widen-fits}
 use Rattle.signed.specs.Extend.{lowBits}
 use Rattle.probe_records.specs.LittleEndian.{little}
-use Rattle.probe_records.proofs.sample.Statement.{statement}
-use Rattle.probe_records.proofs.sample.Tie as tie
+use Rattle.probe_records.proofs.sample_bytes.Statement.{statement}
+use Rattle.probe_records.proofs.sample_bytes.Tie as tie
 
 cast-low-bits : tie.Need-cast-low-bits
 cast-low-bits c = widen-fits (c .fits .x)
@@ -35,8 +35,8 @@ returns c =
     ap₂ _∷_ (c1 .low-byte .ensures) (ap₂ _∷_ (c2 .low-byte2 .ensures) (ap₂ _∷_ (c3 .low-byte3 .ensures) (ap₂ _∷_ (c .low-byte4 .ensures) refl)))
     ∙ ap (little 4) (c1 .before .low-bits .ensures ∙ ap (lowBits 32) (widened (c1 .before .before .fits .x)))
 
-pub sample-spec : {M : Type 1} → statement M
-sample-spec =
+pub sample-bytes-spec : {M : Type 1} → statement M
+sample-bytes-spec =
     tie.close
     (tie.spec
     cast-low-bits

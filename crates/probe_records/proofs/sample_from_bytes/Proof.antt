@@ -9,15 +9,15 @@ use Rattle.rfc9639.specs.Integers.{low, wrapped}
 use Rattle.rfc9639.proofs.Widths.{wrapped-wrapped}
 use Rattle.signed.specs.Extend.{signExtend}
 use Rattle.signed.proofs.SignExtension.{extend-low}
-use Rattle.probe_records.proofs.sample_of.Statement.{statement}
-use Rattle.probe_records.proofs.sample_of.Tie as tie
+use Rattle.probe_records.proofs.sample_from_bytes.Statement.{statement}
+use Rattle.probe_records.proofs.sample_from_bytes.Tie as tie
 
 again : (v : ℕ) → signExtend 32 v ≡ wrapped 32 (pos v)
 unfolding wrapped low
 again v = extend-low 32 v (omega arith)
 
-number-of-requires : tie.Need-number-of-requires
-number-of-requires c κs = search needs
+number-from-bytes-requires : tie.Need-number-from-bytes-requires
+number-from-bytes-requires c κs = search needs
 
 sign-extend-requires : tie.Need-sign-extend-requires
 sign-extend-requires c κs = search needs
@@ -32,6 +32,6 @@ returns c =
     ∙ ap (wrapped 32) (toZ-ofZ (record { sfits = c .before .sign-extend .ok }) ∙ c .before .sign-extend .ensures ∙ again (n .result))
     ∙ wrapped-wrapped 32 (pos (n .result)) ∙ ap (λ v. wrapped 32 (pos v)) (n .ensures)
 
-pub sample-of-spec : {M : Type 1} → statement M
-sample-of-spec =
-    tie.close (tie.spec number-of-requires sign-extend-requires low32-requires returns)
+pub sample-from-bytes-spec : {M : Type 1} → statement M
+sample-from-bytes-spec =
+    tie.close (tie.spec number-from-bytes-requires sign-extend-requires low32-requires returns)
