@@ -19,26 +19,26 @@ use Rattle.bit_writer.proofs.InkedBits.{Good, pen-good, ink-append, ink
 
 module _ (p : Pen) (m x : ℕ) (low : p .bits < 2 ^ p .held) (room : p .held + m ≤ 8) (fits : x < 2 ^ m) where
   -- no bit is shifted out of the word
-  joined : (p .bits * 2 ^ m) % 2 ^ 64 + x ≡ p .bits * 2 ^ m + x
-  joined = ap (λ (y : ℕ). y + x) (shl-exact (p .held) m 64 low (omega arith))
+  appended : (p .bits * 2 ^ m) % 2 ^ 64 + x ≡ p .bits * 2 ^ m + x
+  appended = ap (λ (y : ℕ). y + x) (shl-exact (p .held) m 64 low (omega arith))
 
-  pub joined-below : (p .bits * 2 ^ m) % 2 ^ 64 + x < 256
-  joined-below = rw joined (lt-of-lt-of-le (digits-lt low fits) (rw (← pow-add 2 (p .held) m) (pow-mono room)))
+  pub appended-below : (p .bits * 2 ^ m) % 2 ^ 64 + x < 256
+  appended-below = rw appended (lt-of-lt-of-le (digits-lt low fits) (rw (← pow-add 2 (p .held) m) (pow-mono room)))
 
-  joined-spelt : (p .bits * 2 ^ m) % 2 ^ 64 + x ≡ spelt (p .bits) (bitsOf m x)
-  joined-spelt = joined ∙ ap (λ (y : ℕ). p .bits * 2 ^ m + y) (sym (mod-eq-of-lt fits)) ∙ sym (spelt-bitsOf (p .bits) m x)
+  appended-spelt : (p .bits * 2 ^ m) % 2 ^ 64 + x ≡ spelt (p .bits) (bitsOf m x)
+  appended-spelt = appended ∙ ap (λ (y : ℕ). p .bits * 2 ^ m + y) (sym (mod-eq-of-lt fits)) ∙ sym (spelt-bitsOf (p .bits) m x)
 
   module _ (s : List ℕ) (l : p .byte < length s) where
     pub put-few : p .held + m < 8
         → _≡_ {A = State} (record { pen = record { byte = p .byte; held = p .held + m; bits = (p .bits * 2 ^ m) % 2 ^ 64 + x }; bytes = s }) (ink (bitsOf m x) p s)
     put-few h =
-        ap₂ (λ (k y : ℕ). record { pen = record { byte = p .byte; held = p .held + k; bits = y }; bytes = s }) (sym (length-bitsOf m x)) joined-spelt
+        ap₂ (λ (k y : ℕ). record { pen = record { byte = p .byte; held = p .held + k; bits = y }; bytes = s }) (sym (length-bitsOf m x)) appended-spelt
         ∙ sym (ink-few (bitsOf m x) p s l (rw length-bitsOf h))
 
     pub put-byte : 0 < m → 8 ≤ p .held + m
         → _≡_ {A = State} (record { pen = record { byte = p .byte + 1; held = 0; bits = 0 }; bytes = set s (p .byte) ((p .bits * 2 ^ m) % 2 ^ 64 + x) }) (ink (bitsOf m x) p s)
     put-byte n h =
-        ap (λ (y : ℕ). record { pen = record { byte = p .byte + 1; held = 0; bits = 0 }; bytes = set s (p .byte) y }) joined-spelt
+        ap (λ (y : ℕ). record { pen = record { byte = p .byte + 1; held = 0; bits = 0 }; bytes = set s (p .byte) y }) appended-spelt
         ∙ sym (ink-byte (bitsOf m x) p s l (rw length-bitsOf n) (omega (arith, length-bitsOf m x)))
 
 -- ---- bits of which the last ones, `rest`, are still to be written: inking them from here gives the whole result

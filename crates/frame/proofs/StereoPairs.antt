@@ -69,17 +69,17 @@ module _ (n : ℕ) (l : List ℤ) (h : length l ≡ 2 * n) where
   right-long = length-drop n l ∙ omega arith
 
   -- in the definition's words
-  pub joined-left : pairwise first (take n l) (drop n l) ++ pairwise rightOf (take n l) (drop n l) ≡ leftAndRight LeftSide n l
+  pub pairs-left-side : pairwise first (take n l) (drop n l) ++ pairwise rightOf (take n l) (drop n l) ≡ leftAndRight LeftSide n l
   unfolding leftAndRight
-  joined-left = ap (λ (u : List ℤ). u ++ pairwise rightOf (take n l) (drop n l)) (pairwise-first (take n l) (drop n l) (omega (arith, left-long, right-long)))
+  pairs-left-side = ap (λ (u : List ℤ). u ++ pairwise rightOf (take n l) (drop n l)) (pairwise-first (take n l) (drop n l) (omega (arith, left-long, right-long)))
 
-  pub joined-right : pairwise leftOf (take n l) (drop n l) ++ pairwise second (take n l) (drop n l) ≡ leftAndRight SideRight n l
+  pub pairs-side-right : pairwise leftOf (take n l) (drop n l) ++ pairwise second (take n l) (drop n l) ≡ leftAndRight SideRight n l
   unfolding leftAndRight
-  joined-right = ap (λ (u : List ℤ). pairwise leftOf (take n l) (drop n l) ++ u) (pairwise-second (take n l) (drop n l) (omega (arith, left-long, right-long)))
+  pairs-side-right = ap (λ (u : List ℤ). pairwise leftOf (take n l) (drop n l) ++ u) (pairwise-second (take n l) (drop n l) (omega (arith, left-long, right-long)))
 
-pub joined-mid : (n : ℕ) (l : List ℤ) → pairwise leftOfMid (take n l) (drop n l) ++ pairwise rightOfMid (take n l) (drop n l) ≡ leftAndRight MidSide n l
+pub pairs-mid-side : (n : ℕ) (l : List ℤ) → pairwise leftOfMid (take n l) (drop n l) ++ pairwise rightOfMid (take n l) (drop n l) ≡ leftAndRight MidSide n l
 unfolding leftAndRight
-joined-mid n l = refl
+pairs-mid-side n l = refl
 
 module _ {f g : ℤ → ℤ → ℤ} {n : ℕ} {l₀ l : List ℤ} {i : ℕ} (inv : PairsJoined f g n l₀ l i) where
   pub end : n ≤ i → l ≡ pairwise f (take n l₀) (drop n l₀) ++ pairwise g (take n l₀) (drop n l₀)

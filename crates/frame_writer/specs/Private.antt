@@ -1,5 +1,5 @@
--- What the writer plans for each subframe, and the end of a frame. Only contracts of private functions name it, so nobody
--- has to believe it.
+-- What the writer plans for each subframe, and the end of a frame. Only contracts of private functions name it, so
+-- nobody has to believe it.
 use Prim.Native.Nat.{ℕ, _-_, _%_, _^_, _≤_}
 use mathlib.Core.Path.{_≡_}
 use mathlib.Core.List.{List, map}

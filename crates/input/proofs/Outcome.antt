@@ -14,17 +14,17 @@ back (gotAt v p) = Value v p
 back (refusedAt n) = Short
 back shortAt = Short
 
-back-means : (r : Bits) → back (bitsAt r) ≡ r
+back-bitsAt : (r : Bits) → back (bitsAt r) ≡ r
 unfolding back
-back-means (Value v p) = refl
-back-means Short = refl
+back-bitsAt (Value v p) = refl
+back-bitsAt Short = refl
 
 -- answers with the same meaning are equal
-pub means-one : (r r′ : Bits) → bitsAt r ≡ bitsAt r′ → r ≡ r′
-means-one r r′ e = sym (back-means r) ∙ ap back e ∙ back-means r′
+pub bitsAt-one : (r r′ : Bits) → bitsAt r ≡ bitsAt r′ → r ≡ r′
+bitsAt-one r r′ e = sym (back-bitsAt r) ∙ ap back e ∙ back-bitsAt r′
 
 pub read-bits-one : OneOutcome read_bits.ended read_bits.Reads.Learnt
-read-bits-one κs args r r′ left left′ p q = (means-one r r′ (one-value p q), refl)
+read-bits-one κs args r r′ left left′ p q = (bitsAt-one r r′ (one-value p q), refl)
 
 pub read-unary-one : OneOutcome read_unary.ended read_unary.Reads.Learnt
-read-unary-one κs args r r′ left left′ p q = (means-one r r′ (one-value p q), refl)
+read-unary-one κs args r r′ left left′ p q = (bitsAt-one r r′ (one-value p q), refl)

@@ -1,5 +1,5 @@
--- Lists of small numbers: what makes a sum of products exact. Only contracts of private functions name it, so nobody has
--- to believe it.
+-- Lists of small numbers: what makes a sum of products exact. Only contracts of private functions name it, so nobody
+-- has to believe it.
 use Prim.Native.Nat.{ℕ, _<_}
 use mathlib.Core.List.{List, [], _∷_}
 use lib.IntN.{ℤ, natAbs}

@@ -16,7 +16,14 @@ fn low_byte(v: u64) -> u8
 
 // The start of a frame's record: its first byte, the bytes consumed, the number of the first sample, the channels, the
 // bits and the block size.
-pub fn report_bytes(kind: u8, consumed: u64, first: u64, channels: u64, bits: u64, size: u64) -> [u8; 17]
+pub fn report_bytes(
+    kind: u8,
+    consumed: u64,
+    first: u64,
+    channels: u64,
+    bits: u64,
+    size: u64,
+) -> [u8; 17]
     ensures { λ r. ⌜ r ≡ kind ∷ (little 4 consumed ++ (little 8 first ++ (little 1 channels ++ (little 1 bits ++ little 2 size)))) ⌝ }
 {
     [

@@ -1,5 +1,5 @@
--- The pieces of the choice: the sums of the quotients for each parameter, and the choices made from them. Only contracts
--- of private functions name it, so nobody has to believe it.
+-- The pieces of the choice: the sums of the quotients for each parameter, and the choices made from them. Only
+-- contracts of private functions name it, so nobody has to believe it.
 use Prim.Native.Nat.{ℕ, suc, _+_, _*_, _/_, _^_, _<_}
 use mathlib.Core.List.{List, [], _∷_, map}
 use lib.IntN.{ℤ}

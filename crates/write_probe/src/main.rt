@@ -52,7 +52,7 @@ fn decode(bytes: &[u8], samples: &mut [i32])
 }
 
 // The frame's or sample's number, in eight bytes.
-fn number_of(input: &[u8]) -> u64
+fn setting_number(input: &[u8]) -> u64
     requires { ⌜ length (now input) ≡ 65556 ⌝ }
 {
     let low = probe_records::number_from_bytes(input[3], input[4], input[5], input[6]);
@@ -71,8 +71,18 @@ fn count_of(n: usize) -> usize
 fn run(input: &[u8], n: usize, samples: &mut [i32], out: &mut [u8])
     requires { ⌜ (length (now input) ≡ 65556) × (n ≤ 65556) × (length (now samples) ≡ 16384) × (length (now out) ≡ 32768) ⌝ }
 {
-    let size = probe_records::number_from_bytes(input[11], input[12], input[13], input[14]) as usize;
-    let room = probe_records::number_from_bytes(input[15], input[16], input[17], input[18]) as usize;
+    let size = probe_records::number_from_bytes(
+        input[11],
+        input[12],
+        input[13],
+        input[14],
+    ) as usize;
+    let room = probe_records::number_from_bytes(
+        input[15],
+        input[16],
+        input[17],
+        input[18],
+    ) as usize;
     if out.len() < room {
         write_head(11, 0);
         return;
@@ -85,7 +95,7 @@ fn run(input: &[u8], n: usize, samples: &mut [i32], out: &mut [u8])
         input[0] as u32,
         input[1] as u32,
         input[2] as u32,
-        number_of(input),
+        setting_number(input),
         size,
         &mut out[..room],
     );

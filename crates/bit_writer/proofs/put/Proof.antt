@@ -1,7 +1,7 @@
 -- Adding m bits to the byte being filled is inking them. Assumes nothing.
 use borrow.Author.Needs.{needs}
 use native.Mathlib.Omega.{arith}
-use Rattle.bit_writer.proofs.BitLoops.{joined-below, put-few, put-byte}
+use Rattle.bit_writer.proofs.BitLoops.{appended-below, put-few, put-byte}
 use Rattle.bit_writer.proofs.put.Statement.{statement}
 use Rattle.bit_writer.proofs.put.Tie as tie
 
@@ -9,7 +9,7 @@ shl-all : tie.Need-shl-all
 shl-all c = search needs
 
 add-all : tie.Need-add-all
-add-all c = record { fits = omega (arith, joined-below (c .args .pen) (c .args .m) (c .args .bits) (c .pre .0) (c .pre .3) (c .pre .4)) }
+add-all c = record { fits = omega (arith, appended-below (c .args .pen) (c .args .m) (c .args .bits) (c .pre .0) (c .pre .3) (c .pre .4)) }
 
 add-if1 : tie.Need-add-if1
 add-if1 c = search needs
@@ -21,7 +21,7 @@ returns : tie.Need-returns
 returns c = put-few _ _ _ (c .before .pre .0) (c .before .pre .3) (c .before .pre .4) _ (c .before .pre .1) (c .if1 .taken)
 
 cast-out : tie.Need-cast-out
-cast-out c = record { fits = joined-below (c .before .args .pen) _ _ (c .before .pre .0) (c .before .pre .3) (c .before .pre .4) }
+cast-out c = record { fits = appended-below (c .before .args .pen) _ _ (c .before .pre .0) (c .before .pre .3) (c .before .pre .4) }
 
 slice-write-out : tie.Need-slice-write-out
 slice-write-out c = search needs

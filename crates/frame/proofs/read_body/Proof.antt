@@ -36,11 +36,11 @@ module _ (c : tie.After-channel-count) where
   abbrev count : ℕ
   count = c .channel-count .result * start .args .h .size
 
-  headed-is : runAt header bytes (placeOf 0) ≡ gotAt (start .args .h) (start .args .at)
-  headed-is = sym (start .pre)
+  header-is : runAt header bytes (placeOf 0) ≡ gotAt (start .args .h) (start .args .at)
+  header-is = sym (start .pre)
 
   sound : Sound (start .args .h)
-  sound = header-sound bytes headed-is
+  sound = header-sound bytes header-is
 
   count-is : count ≡ sampleCount (start .args .h)
   unfolding sampleCount
@@ -56,12 +56,12 @@ mul-count : tie.Need-mul-count
 mul-count c = omega (arith, count-few (c .before))
 
 returns : tie.Need-returns
-returns c = let k = c .before .before in no-bits (bytes k) (lent k) (headed-is k) (c .if1 .taken)
+returns c = let k = c .before .before in no-bits (bytes k) (lent k) (header-is k) (c .if1 .taken)
 
 returns-2 : tie.Need-returns-2
 returns-2 c =
     let k = c .before .before .before in
-    no-room (bytes k) (lent k) (headed-is k) (c .before .if1 .left) (omega (arith, count-is k, c .if2 .taken))
+    no-room (bytes k) (lent k) (header-is k) (c .before .if1 .left) (omega (arith, count-is k, c .if2 .taken))
 
 -- there is room
 fits : (c : tie.Else2) → sampleCount (start (c .before .before .before) .args .h) ≤ length (lent (c .before .before .before))
@@ -79,7 +79,7 @@ enum-told-2 c = search needs
 returns-3 : tie.Need-returns-3
 returns-3 c =
     let r = c .before .before in let i = r .before in let k = i .before .before .before in
-    no-first-bit (bytes k) (lent k) (headed-is k) (i .before .if1 .left) (fits i) (bit-is (bytes k) _ (r .read-bits .ensures) (c .enum-told2 .given .1))
+    no-first-bit (bytes k) (lent k) (header-is k) (i .before .if1 .left) (fits i) (bit-is (bytes k) _ (r .read-bits .ensures) (c .enum-told2 .given .1))
 
 slice-relend-prefix-decode-body : tie.Need-slice-relend-prefix-decode-body
 slice-relend-prefix-decode-body c = search needs
@@ -137,7 +137,7 @@ same-length c = search needs
 returns-4 : tie.Need-returns-4
 returns-4 c =
     let g = c .before .before in let d = g .before .before .before in let t = told-bit d in let k = known d in
-    body-read (bytes k) (lent k) (headed-is k) (inner d .before .if1 .left) (fits (inner d)) (bit-is (bytes k) _ (t .before .before .read-bits .ensures) (t .enum-told .given .1))
+    body-read (bytes k) (lent k) (header-is k) (inner d .before .if1 .left) (fits (inner d)) (bit-is (bytes k) _ (t .before .before .read-bits .ensures) (t .enum-told .given .1))
     (left d) (stands d) (g .decoded .given .1) (long d) (c .first-sample .ensures) (k .channel-count .ensures)
 
 same-length-2 : tie.Need-same-length-2
@@ -146,7 +146,7 @@ same-length-2 c = search needs
 returns-5 : tie.Need-returns-5
 returns-5 c =
     let g = c .before in let d = g .before .before .before in let t = told-bit d in let k = known d in
-    body-refused (bytes k) (lent k) (headed-is k) (inner d .before .if1 .left) (fits (inner d)) (bit-is (bytes k) _ (t .before .before .read-bits .ensures) (t .enum-told .given .1))
+    body-refused (bytes k) (lent k) (header-is k) (inner d .before .if1 .left) (fits (inner d)) (bit-is (bytes k) _ (t .before .before .read-bits .ensures) (t .enum-told .given .1))
     (left d) (stands d) (g .decoded2 .given .1)
 
 pub read-body-spec : {M : Type 1} → statement M

@@ -1,4 +1,4 @@
--- `report` meets its contract, byte by byte. Assumes nothing.
+-- `report_bytes` meets its contract, byte by byte. Assumes nothing.
 use borrow.Author.Needs.{needs}
 use mathlib.Core.Path.{refl, ap₂}
 use mathlib.Core.List.{_∷_}

@@ -1,4 +1,4 @@
--- `sample` meets its contract, byte by byte of the low 32 bits. Assumes nothing.
+-- `sample_bytes` meets its contract, byte by byte of the low 32 bits. Assumes nothing.
 use borrow.Author.Needs.{needs}
 use mathlib.Core.Path.{refl, ap, ap₂, _∙_}
 use mathlib.Core.List.{_∷_}

@@ -1,4 +1,4 @@
--- `sample_of` meets its contract: 32 bits, extended and cut again, are the same 32 bits. Assumes nothing.
+-- `sample_from_bytes` meets its contract: 32 bits, extended and cut again, are the same 32 bits. Assumes nothing.
 use Prim.Native.Nat.{ℕ}
 use native.Mathlib.Omega.{arith}
 use mathlib.Core.Path.{_≡_, ap, _∙_}
@@ -27,7 +27,7 @@ low32-requires c κs = search needs
 
 returns : tie.Need-returns
 returns c =
-    let n = c .before .before .number-of in
+    let n = c .before .before .number-from-bytes in
     toZ-ofZ (record { sfits = c .low32 .ok }) ∙ c .low32 .ensures
     ∙ ap (wrapped 32) (toZ-ofZ (record { sfits = c .before .sign-extend .ok }) ∙ c .before .sign-extend .ensures ∙ again (n .result))
     ∙ wrapped-wrapped 32 (pos (n .result)) ∙ ap (λ v. wrapped 32 (pos v)) (n .ensures)

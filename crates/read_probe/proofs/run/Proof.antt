@@ -7,32 +7,32 @@ use lib.Seq.{length-take-le}
 use Rattle.read_probe.proofs.run.Statement.{statement}
 use Rattle.read_probe.proofs.run.Tie as tie
 
-shared-slice-read-number-of : tie.Need-shared-slice-read-number-of
-shared-slice-read-number-of c = search needs
+shared-slice-read-number-from-bytes : tie.Need-shared-slice-read-number-from-bytes
+shared-slice-read-number-from-bytes c = search needs
 
-shared-slice-read-number-of-2 : tie.Need-shared-slice-read-number-of-2
-shared-slice-read-number-of-2 c = search needs
+shared-slice-read-number-from-bytes-2 : tie.Need-shared-slice-read-number-from-bytes-2
+shared-slice-read-number-from-bytes-2 c = search needs
 
-shared-slice-read-number-of-3 : tie.Need-shared-slice-read-number-of-3
-shared-slice-read-number-of-3 c = search needs
+shared-slice-read-number-from-bytes-3 : tie.Need-shared-slice-read-number-from-bytes-3
+shared-slice-read-number-from-bytes-3 c = search needs
 
-shared-slice-read-number-of-4 : tie.Need-shared-slice-read-number-of-4
-shared-slice-read-number-of-4 c = search needs
+shared-slice-read-number-from-bytes-4 : tie.Need-shared-slice-read-number-from-bytes-4
+shared-slice-read-number-from-bytes-4 c = search needs
 
 number-from-bytes-requires : tie.Need-number-from-bytes-requires
 number-from-bytes-requires c κs = search needs
 
-shared-slice-read-sample-of : tie.Need-shared-slice-read-sample-of
-shared-slice-read-sample-of c = search needs
+shared-slice-read-sample-from-bytes : tie.Need-shared-slice-read-sample-from-bytes
+shared-slice-read-sample-from-bytes c = search needs
 
-shared-slice-read-sample-of-2 : tie.Need-shared-slice-read-sample-of-2
-shared-slice-read-sample-of-2 c = search needs
+shared-slice-read-sample-from-bytes-2 : tie.Need-shared-slice-read-sample-from-bytes-2
+shared-slice-read-sample-from-bytes-2 c = search needs
 
-shared-slice-read-sample-of-3 : tie.Need-shared-slice-read-sample-of-3
-shared-slice-read-sample-of-3 c = search needs
+shared-slice-read-sample-from-bytes-3 : tie.Need-shared-slice-read-sample-from-bytes-3
+shared-slice-read-sample-from-bytes-3 c = search needs
 
-shared-slice-read-sample-of-4 : tie.Need-shared-slice-read-sample-of-4
-shared-slice-read-sample-of-4 c = search needs
+shared-slice-read-sample-from-bytes-4 : tie.Need-shared-slice-read-sample-from-bytes-4
+shared-slice-read-sample-from-bytes-4 c = search needs
 
 sample-from-bytes-requires : tie.Need-sample-from-bytes-requires
 sample-from-bytes-requires c κs = search needs
@@ -74,15 +74,15 @@ pub run-spec : {M : Type 1} → statement M
 run-spec =
     tie.close
     (tie.spec
-    shared-slice-read-number-of
-    shared-slice-read-number-of-2
-    shared-slice-read-number-of-3
-    shared-slice-read-number-of-4
+    shared-slice-read-number-from-bytes
+    shared-slice-read-number-from-bytes-2
+    shared-slice-read-number-from-bytes-3
+    shared-slice-read-number-from-bytes-4
     number-from-bytes-requires
-    shared-slice-read-sample-of
-    shared-slice-read-sample-of-2
-    shared-slice-read-sample-of-3
-    shared-slice-read-sample-of-4
+    shared-slice-read-sample-from-bytes
+    shared-slice-read-sample-from-bytes-2
+    shared-slice-read-sample-from-bytes-3
+    shared-slice-read-sample-from-bytes-4
     sample-from-bytes-requires
     write-refusal-requires
     returns

@@ -16,11 +16,11 @@ abbrev μ-loop : tie.MeasureT-loop
 loop-holds : tie.Need-loop-holds Inv-loop μ-loop
 loop-holds c = search needs
 
-mul-sample : tie.Need-mul-sample Inv-loop μ-loop
-mul-sample c = search needs
+mul-sample-bytes : tie.Need-mul-sample-bytes Inv-loop μ-loop
+mul-sample-bytes c = search needs
 
-shared-slice-copy-out-sample : tie.Need-shared-slice-copy-out-sample Inv-loop μ-loop
-shared-slice-copy-out-sample c = search needs
+shared-slice-copy-out-sample-bytes : tie.Need-shared-slice-copy-out-sample-bytes Inv-loop μ-loop
+shared-slice-copy-out-sample-bytes c = search needs
 
 sample-bytes-requires : tie.Need-sample-bytes-requires Inv-loop μ-loop
 sample-bytes-requires c κs = search needs
@@ -104,8 +104,8 @@ write-samples-spec =
     Inv-loop
     μ-loop
     loop-holds
-    mul-sample
-    shared-slice-copy-out-sample
+    mul-sample-bytes
+    shared-slice-copy-out-sample-bytes
     sample-bytes-requires
     array-read-out
     mul-out

@@ -15,38 +15,38 @@ abbrev μ-loop : tie.MeasureT-loop
 loop-holds : tie.Need-loop-holds Inv-loop μ-loop
 loop-holds c = search needs
 
-mul-sample-of : tie.Need-mul-sample-of Inv-loop μ-loop
-mul-sample-of c = search needs
+mul-sample-from-bytes : tie.Need-mul-sample-from-bytes Inv-loop μ-loop
+mul-sample-from-bytes c = search needs
 
-shared-slice-read-sample-of : tie.Need-shared-slice-read-sample-of Inv-loop μ-loop
-shared-slice-read-sample-of c = search needs
+shared-slice-read-sample-from-bytes : tie.Need-shared-slice-read-sample-from-bytes Inv-loop μ-loop
+shared-slice-read-sample-from-bytes c = search needs
 
-mul-sample-of-2 : tie.Need-mul-sample-of-2 Inv-loop μ-loop
-mul-sample-of-2 c = search needs
+mul-sample-from-bytes-2 : tie.Need-mul-sample-from-bytes-2 Inv-loop μ-loop
+mul-sample-from-bytes-2 c = search needs
 
-add-sample-of : tie.Need-add-sample-of Inv-loop μ-loop
-add-sample-of c = search needs
+add-sample-from-bytes : tie.Need-add-sample-from-bytes Inv-loop μ-loop
+add-sample-from-bytes c = search needs
 
-shared-slice-read-sample-of-2 : tie.Need-shared-slice-read-sample-of-2 Inv-loop μ-loop
-shared-slice-read-sample-of-2 c = search needs
+shared-slice-read-sample-from-bytes-2 : tie.Need-shared-slice-read-sample-from-bytes-2 Inv-loop μ-loop
+shared-slice-read-sample-from-bytes-2 c = search needs
 
-mul-sample-of-3 : tie.Need-mul-sample-of-3 Inv-loop μ-loop
-mul-sample-of-3 c = search needs
+mul-sample-from-bytes-3 : tie.Need-mul-sample-from-bytes-3 Inv-loop μ-loop
+mul-sample-from-bytes-3 c = search needs
 
-add-sample-of-2 : tie.Need-add-sample-of-2 Inv-loop μ-loop
-add-sample-of-2 c = search needs
+add-sample-from-bytes-2 : tie.Need-add-sample-from-bytes-2 Inv-loop μ-loop
+add-sample-from-bytes-2 c = search needs
 
-shared-slice-read-sample-of-3 : tie.Need-shared-slice-read-sample-of-3 Inv-loop μ-loop
-shared-slice-read-sample-of-3 c = search needs
+shared-slice-read-sample-from-bytes-3 : tie.Need-shared-slice-read-sample-from-bytes-3 Inv-loop μ-loop
+shared-slice-read-sample-from-bytes-3 c = search needs
 
-mul-sample-of-4 : tie.Need-mul-sample-of-4 Inv-loop μ-loop
-mul-sample-of-4 c = search needs
+mul-sample-from-bytes-4 : tie.Need-mul-sample-from-bytes-4 Inv-loop μ-loop
+mul-sample-from-bytes-4 c = search needs
 
-add-sample-of-3 : tie.Need-add-sample-of-3 Inv-loop μ-loop
-add-sample-of-3 c = search needs
+add-sample-from-bytes-3 : tie.Need-add-sample-from-bytes-3 Inv-loop μ-loop
+add-sample-from-bytes-3 c = search needs
 
-shared-slice-read-sample-of-4 : tie.Need-shared-slice-read-sample-of-4 Inv-loop μ-loop
-shared-slice-read-sample-of-4 c = search needs
+shared-slice-read-sample-from-bytes-4 : tie.Need-shared-slice-read-sample-from-bytes-4 Inv-loop μ-loop
+shared-slice-read-sample-from-bytes-4 c = search needs
 
 sample-from-bytes-requires : tie.Need-sample-from-bytes-requires Inv-loop μ-loop
 sample-from-bytes-requires c κs = search needs
@@ -79,17 +79,17 @@ decode-spec =
     Inv-loop
     μ-loop
     loop-holds
-    mul-sample-of
-    shared-slice-read-sample-of
-    mul-sample-of-2
-    add-sample-of
-    shared-slice-read-sample-of-2
-    mul-sample-of-3
-    add-sample-of-2
-    shared-slice-read-sample-of-3
-    mul-sample-of-4
-    add-sample-of-3
-    shared-slice-read-sample-of-4
+    mul-sample-from-bytes
+    shared-slice-read-sample-from-bytes
+    mul-sample-from-bytes-2
+    add-sample-from-bytes
+    shared-slice-read-sample-from-bytes-2
+    mul-sample-from-bytes-3
+    add-sample-from-bytes-2
+    shared-slice-read-sample-from-bytes-3
+    mul-sample-from-bytes-4
+    add-sample-from-bytes-3
+    shared-slice-read-sample-from-bytes-4
     sample-from-bytes-requires
     mul-t21
     slice-set-from-samples

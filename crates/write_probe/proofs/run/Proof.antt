@@ -7,32 +7,32 @@ use lib.Seq.{length-take-le}
 use Rattle.write_probe.proofs.run.Statement.{statement}
 use Rattle.write_probe.proofs.run.Tie as tie
 
-shared-slice-read-number-of : tie.Need-shared-slice-read-number-of
-shared-slice-read-number-of c = search needs
+shared-slice-read-number-from-bytes : tie.Need-shared-slice-read-number-from-bytes
+shared-slice-read-number-from-bytes c = search needs
 
-shared-slice-read-number-of-2 : tie.Need-shared-slice-read-number-of-2
-shared-slice-read-number-of-2 c = search needs
+shared-slice-read-number-from-bytes-2 : tie.Need-shared-slice-read-number-from-bytes-2
+shared-slice-read-number-from-bytes-2 c = search needs
 
-shared-slice-read-number-of-3 : tie.Need-shared-slice-read-number-of-3
-shared-slice-read-number-of-3 c = search needs
+shared-slice-read-number-from-bytes-3 : tie.Need-shared-slice-read-number-from-bytes-3
+shared-slice-read-number-from-bytes-3 c = search needs
 
-shared-slice-read-number-of-4 : tie.Need-shared-slice-read-number-of-4
-shared-slice-read-number-of-4 c = search needs
+shared-slice-read-number-from-bytes-4 : tie.Need-shared-slice-read-number-from-bytes-4
+shared-slice-read-number-from-bytes-4 c = search needs
 
 number-from-bytes-requires : tie.Need-number-from-bytes-requires
 number-from-bytes-requires c κs = search needs
 
-shared-slice-read-number-of-5 : tie.Need-shared-slice-read-number-of-5
-shared-slice-read-number-of-5 c = search needs
+shared-slice-read-number-from-bytes-5 : tie.Need-shared-slice-read-number-from-bytes-5
+shared-slice-read-number-from-bytes-5 c = search needs
 
-shared-slice-read-number-of-6 : tie.Need-shared-slice-read-number-of-6
-shared-slice-read-number-of-6 c = search needs
+shared-slice-read-number-from-bytes-6 : tie.Need-shared-slice-read-number-from-bytes-6
+shared-slice-read-number-from-bytes-6 c = search needs
 
-shared-slice-read-number-of-7 : tie.Need-shared-slice-read-number-of-7
-shared-slice-read-number-of-7 c = search needs
+shared-slice-read-number-from-bytes-7 : tie.Need-shared-slice-read-number-from-bytes-7
+shared-slice-read-number-from-bytes-7 c = search needs
 
-shared-slice-read-number-of-8 : tie.Need-shared-slice-read-number-of-8
-shared-slice-read-number-of-8 c = search needs
+shared-slice-read-number-from-bytes-8 : tie.Need-shared-slice-read-number-from-bytes-8
+shared-slice-read-number-from-bytes-8 c = search needs
 
 number-from-bytes-requires-2 : tie.Need-number-from-bytes-requires-2
 number-from-bytes-requires-2 c κs = search needs
@@ -100,8 +100,8 @@ shared-slice-read-write-frame-3 c = search needs
 cast-write-frame-3 : tie.Need-cast-write-frame-3
 cast-write-frame-3 c = omega (arith, c .shared-slice-known13 .given 2)
 
-number-from-bytes-requires-3 : tie.Need-number-from-bytes-requires-3
-number-from-bytes-requires-3 c κs = search needs
+setting-number-requires : tie.Need-setting-number-requires
+setting-number-requires c κs = search needs
 
 slice-relend-prefix-write-frame : tie.Need-slice-relend-prefix-write-frame
 slice-relend-prefix-write-frame c = search needs
@@ -137,15 +137,15 @@ pub run-spec : {M : Type 1} → statement M
 run-spec =
     tie.close
     (tie.spec
-    shared-slice-read-number-of
-    shared-slice-read-number-of-2
-    shared-slice-read-number-of-3
-    shared-slice-read-number-of-4
+    shared-slice-read-number-from-bytes
+    shared-slice-read-number-from-bytes-2
+    shared-slice-read-number-from-bytes-3
+    shared-slice-read-number-from-bytes-4
     number-from-bytes-requires
-    shared-slice-read-number-of-5
-    shared-slice-read-number-of-6
-    shared-slice-read-number-of-7
-    shared-slice-read-number-of-8
+    shared-slice-read-number-from-bytes-5
+    shared-slice-read-number-from-bytes-6
+    shared-slice-read-number-from-bytes-7
+    shared-slice-read-number-from-bytes-8
     number-from-bytes-requires-2
     write-head-requires
     returns
@@ -168,7 +168,7 @@ run-spec =
     cast-write-frame-2
     shared-slice-read-write-frame-3
     cast-write-frame-3
-    number-from-bytes-requires-3
+    setting-number-requires
     slice-relend-prefix-write-frame
     slice-aggregate-write-frame-2
     write-frame-requires

@@ -4,7 +4,7 @@ use native.Mathlib.Omega.{arith}
 use mathlib.Core.Path.{_∙_}
 use borrow.Author.Needs.{needs}
 use Rattle.rfc9639.specs.Stereo.{rightOf}
-use Rattle.frame.proofs.StereoPairs.{first, PairsJoined, begin, step-right, end, joined-left}
+use Rattle.frame.proofs.StereoPairs.{first, PairsJoined, begin, step-right, end, pairs-left-side}
 use Rattle.frame.proofs.stereo.decode_left_side.Statement.{statement}
 use Rattle.frame.proofs.stereo.decode_left_side.Tie as tie
 
@@ -61,7 +61,7 @@ same-length : tie.Need-same-length Inv-loop μ-loop
 same-length c = omega (arith, c .before .loop .inv .long, c .before .before .pre)
 
 returns : tie.Need-returns Inv-loop μ-loop
-returns c = end (c .before .loop .inv) (omega arith) ∙ joined-left _ _ (c .before .before .pre)
+returns c = end (c .before .loop .inv) (omega arith) ∙ pairs-left-side _ _ (c .before .before .pre)
 
 pub decode-left-side-spec : {M : Type 1} → statement M
 decode-left-side-spec =

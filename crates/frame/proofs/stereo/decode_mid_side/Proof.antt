@@ -5,7 +5,7 @@ use mathlib.Core.Path.{_∙_}
 use borrow.Author.Needs.{needs}
 use lib.ListN.{length-set}
 use Rattle.rfc9639.specs.Stereo.{leftOfMid, rightOfMid}
-use Rattle.frame.proofs.StereoPairs.{PairsJoined, begin, step-both, end, joined-mid}
+use Rattle.frame.proofs.StereoPairs.{PairsJoined, begin, step-both, end, pairs-mid-side}
 use Rattle.frame.proofs.stereo.decode_mid_side.Statement.{statement}
 use Rattle.frame.proofs.stereo.decode_mid_side.Tie as tie
 
@@ -70,7 +70,7 @@ same-length : tie.Need-same-length Inv-loop μ-loop
 same-length c = omega (arith, c .before .loop .inv .long, c .before .before .pre)
 
 returns : tie.Need-returns Inv-loop μ-loop
-returns c = end (c .before .loop .inv) (omega arith) ∙ joined-mid _ _
+returns c = end (c .before .loop .inv) (omega arith) ∙ pairs-mid-side _ _
 
 pub decode-mid-side-spec : {M : Type 1} → statement M
 decode-mid-side-spec =

@@ -4,7 +4,7 @@ use native.Mathlib.Omega.{arith}
 use mathlib.Core.Path.{_∙_}
 use borrow.Author.Needs.{needs}
 use Rattle.rfc9639.specs.Stereo.{leftOf}
-use Rattle.frame.proofs.StereoPairs.{second, PairsJoined, begin, step-left, end, joined-right}
+use Rattle.frame.proofs.StereoPairs.{second, PairsJoined, begin, step-left, end, pairs-side-right}
 use Rattle.frame.proofs.stereo.decode_right_side.Statement.{statement}
 use Rattle.frame.proofs.stereo.decode_right_side.Tie as tie
 
@@ -58,7 +58,7 @@ same-length : tie.Need-same-length Inv-loop μ-loop
 same-length c = omega (arith, c .before .loop .inv .long, c .before .before .pre)
 
 returns : tie.Need-returns Inv-loop μ-loop
-returns c = end (c .before .loop .inv) (omega arith) ∙ joined-right _ _ (c .before .before .pre)
+returns c = end (c .before .loop .inv) (omega arith) ∙ pairs-side-right _ _ (c .before .before .pre)
 
 pub decode-right-side-spec : {M : Type 1} → statement M
 decode-right-side-spec =
