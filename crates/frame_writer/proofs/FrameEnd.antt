@@ -1,4 +1,4 @@
--- The end of a frame: where the pen stands, and that it is `footed (paddedToByte ..)` of the definition. Assumes nothing.
+-- The end of a frame: where the pen stands; it is the definition's `footed (paddedToByte ..)`. Assumes nothing.
 use Prim.Native.Nat.{ℕ, zero, suc, _+_, _-_, _*_, _/_, _%_, _≤_, _<_}
 use native.Mathlib.Omega.{arith}
 use mathlib.Core.Path.{_≡_, refl, ap, sym, _∙_}

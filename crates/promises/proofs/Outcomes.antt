@@ -12,7 +12,7 @@ use Rattle.rfc9639.specs.Write.{write}
 use Rattle.frame.specs.declared.ReadAnswer.{ReadAnswer}
 use Rattle.frame.specs.Reads.{Reads}
 use Rattle.frame.proofs.read_frame as read_frame
-use Rattle.frame_writer.specs.declared.ReadAnswer as written
+use Rattle.frame_writer.specs.declared.WriteAnswer.{WriteAnswer}
 use Rattle.frame_writer.specs.Outcomes.{outcome}
 use Rattle.frame_writer.proofs.write_frame as write_frame
 
@@ -43,7 +43,7 @@ reads {s} {b} {r} {left} o =
     subst (λ (x : List ℤ). Reads (read s x) r left) (o .lent) (subst (λ (x : List ℕ). Reads (read x (o .args .1 .0 .now)) r left) (o .bytes) (o .meets))
 
 -- an outcome of `write_frame(xs, .. settings .., out)`: it answers r, and the output holds `left` afterwards
-pub record WriteFrame (set : FrameSetting) (xs : List ℤ) (out : List ℕ) (r : written.ReadAnswer) (left : List ℕ) : Type 0 where
+pub record WriteFrame (set : FrameSetting) (xs : List ℤ) (out : List ℕ) (r : WriteAnswer) (left : List ℕ) : Type 0 where
   pub κs : Lfts (write_frame.ended .signature .lifetimes)
   pub args : Args (write_frame.ended .signature) κs
   pub samples : args .0 .now ≡ xs
@@ -51,7 +51,7 @@ pub record WriteFrame (set : FrameSetting) (xs : List ℤ) (out : List ℕ) (r :
   pub lent : args .1 .1 .1 .1 .1 .1 .0 .now ≡ out
   pub meets : write_frame.Reads.Learnt κs args r (atExit write_frame.ended κs args (tt, (tt, (tt, (tt, (tt, (tt, (left, tt))))))))
 
-pub writes : {set : FrameSetting} {xs : List ℤ} {out : List ℕ} {r : written.ReadAnswer} {left : List ℕ} → WriteFrame set xs out r left → outcome r left ≡ write set xs out
+pub writes : {set : FrameSetting} {xs : List ℤ} {out : List ℕ} {r : WriteAnswer} {left : List ℕ} → WriteFrame set xs out r left → outcome r left ≡ write set xs out
 writes {set} {xs} {out} {r} {left} o =
     let lent = o .args .1 .1 .1 .1 .1 .1 .0 .now in
     subst (λ (x : List ℕ). outcome r left ≡ write set xs x) (o .lent)

@@ -17,7 +17,7 @@ use Rattle.readback.specs.FirstSample.{firstOf}
 use Rattle.readback.proofs.ReadBack.{writtenReport, read-back}
 use Rattle.frame.specs.declared.ReadAnswer.{ReadAnswer}
 use Rattle.frame.proofs.Outcome.{report-tells}
-use Rattle.frame_writer.specs.declared.ReadAnswer as written
+use Rattle.frame_writer.specs.declared.WriteAnswer.{WriteAnswer}
 use Rattle.frame_writer.specs.Outcomes.{outcome}
 use Rattle.promises.proofs.Outcomes.{ReadFrame, reads, WriteFrame, writes}
 
@@ -28,7 +28,7 @@ record Wrote (set : FrameSetting) (xs : List ℤ) (out : List ℕ) (n : ℕ) (le
   long : n ≡ length (frameBytes set xs)
   laid : left ≡ frameBytes set xs ++ drop (length (frameBytes set xs)) out
 
-wrote : (set : FrameSetting) (xs : List ℤ) (out : List ℕ) (n : ℕ) (left : List ℕ) → outcome (written.ReadAnswer.Frame n) left ≡ write set xs out → Wrote set xs out n left
+wrote : (set : FrameSetting) (xs : List ℤ) (out : List ℕ) (n : ℕ) (left : List ℕ) → outcome (WriteAnswer.Frame n) left ≡ write set xs out → Wrote set xs out n left
 unfolding write unwritten
 wrote set xs out n left e = go (allowed set (length xs)) refl (allFit (set .bits) xs) refl (leb (length (frameBytes set xs)) (length out)) e
   where
@@ -36,7 +36,7 @@ wrote set xs out n left e = go (allowed set (length xs)) refl (allFit (set .bits
     at-length b = cond b (record { number = 0; length = length (frameBytes set xs); output = frameBytes set xs ++ drop (length (frameBytes set xs)) out }) (unwritten 13 out)
 
     go : (a : Bool) → allowed set (length xs) ≡ a → (f : Bool) → allFit (set .bits) xs ≡ f → (l : Bool)
-        → outcome (written.ReadAnswer.Frame n) left ≡ cond a (cond f (at-length l) (unwritten 12 out)) (unwritten 11 out) → Wrote set xs out n left
+        → outcome (WriteAnswer.Frame n) left ≡ cond a (cond f (at-length l) (unwritten 12 out)) (unwritten 11 out) → Wrote set xs out n left
     go true a true f true e = record {
       ok = a;
       fit = f;
@@ -47,7 +47,7 @@ wrote set xs out n left e = go (allowed set (length xs)) refl (allFit (set .bits
     go true a false f l e = absurd (let z = ap (λ (w : Written). w .number) e in omega arith)
     go false a f g l e = absurd (let z = ap (λ (w : Written). w .number) e in omega arith)
 
-module _ {set : FrameSetting} {xs : List ℤ} {out : List ℕ} {n : ℕ} {left : List ℕ} (o : WriteFrame set xs out (written.ReadAnswer.Frame n) left) where
+module _ {set : FrameSetting} {xs : List ℤ} {out : List ℕ} {n : ℕ} {left : List ℕ} (o : WriteFrame set xs out (WriteAnswer.Frame n) left) where
   abbrev w : Wrote set xs out n left
   w = wrote set xs out n left (writes o)
 

@@ -9,7 +9,7 @@ use Rattle.frame.specs.declared.ReadAnswer.{ReadAnswer}
 use Rattle.frame.specs.Reads.{reportOf, Reads}
 use Rattle.walk.specs.declared.Step.{Step}
 use Rattle.walk.specs.Steps.{Steps}
-use Rattle.frame_writer.specs.declared.ReadAnswer as w
+use Rattle.frame_writer.specs.declared.WriteAnswer.{WriteAnswer}
 use Rattle.frame_writer.specs.Outcomes.{outcome}
 use Rattle.thriftacorn.specs.Exports.{ReadNextV1}
 
@@ -22,8 +22,8 @@ pub step-outcome : {bytes : List ℕ} {place : ℕ} {samples : List ℤ} {r : St
 step-outcome {place = place} h e =
     let t = report-outcome (h .answer) e in record { answer = t; moved = h .next ∙ ap (λ (o : Outcome). place + o .report .consumed) (sym t) }
 
-pub outcome-of-case : {o : Written} {r : w.ReadAnswer} (left : List ℕ) → outcome r left ≡ o → (q : w.ReadAnswer) → r ≡ q → outcome q left ≡ o
-outcome-of-case left h q e = ap (λ (x : w.ReadAnswer). outcome x left) (sym e) ∙ h
+pub outcome-of-case : {o : Written} {r : WriteAnswer} (left : List ℕ) → outcome r left ≡ o → (q : WriteAnswer) → r ≡ q → outcome q left ≡ o
+outcome-of-case left h q e = ap (λ (x : WriteAnswer). outcome x left) (sym e) ∙ h
 
 -- the report of an answer that is known to be a certain case
 pub report-of-case : {A B : Type 0} (report : A → B) {o r q : A} → r ≡ o → r ≡ q → report q ≡ report o
