@@ -1,22 +1,20 @@
 -- The parts of a header (RFC 9639 section 9.1): what the definition gets for each, by its code. Assumes nothing.
-use Prim.Native.Nat.{ℕ, _+_, _*_, _%_, _^_, _≤_, _<_}
-use native.Mathlib.Nat.{mod-eq-of-lt}
+use Prim.Native.Nat.{ℕ, _≤_, _<_}
 use native.Mathlib.Omega.{arith}
-use mathlib.Core.Path.{_≡_, refl, ap, sym, _∙_, subst}
+use mathlib.Core.Path.{_≡_, refl, _∙_, subst}
 use mathlib.Core.Bool.{Bool, true, false, cond, _||_}
 use mathlib.Core.List.{List}
-use borrow.Author.Tests.{ne-eqb, le-leb, lt-leb}
-use lib.Dec.{leb, ltb, eqb}
-use lib.Pow.{pow-mono}
+use borrow.Author.Tests.{le-leb, lt-leb}
+use lib.Dec.{leb, eqb}
 use Rattle.reading.specs.declared.Place.{Place}
-use Rattle.reading.specs.Readers.{done, _>>=_, _>>_, bits, require}
+use Rattle.reading.specs.Readers.{done}
 use Rattle.reading.specs.Places.{gotAt, refusedAt, runAt, placeOf}
 use Rattle.reading.proofs.Postconditions.{Meets, holds-at}
 use Rattle.rfc9639.specs.declared.BlockTime.the-variants.{FrameNumber, SampleNumber}
 use Rattle.rfc9639.specs.declared.Codes.{Codes}
 use Rattle.rfc9639.specs.declared.FrameHeader.{FrameHeader}
 use Rattle.rfc9639.specs.Number.{codedNumber}
-use Rattle.rfc9639.specs.HeaderCodes.{blockSize, rateBits}
+use Rattle.rfc9639.specs.HeaderCodes.{rateBits}
 use Rattle.rfc9639.specs.Header.{timeOf, codes, blockTime, header}
 use Rattle.demands.proofs.Headers.{Early, CodesInRange, codes-holds, Sound, header-holds}
 use Rattle.header.proofs.ReaderSteps.{check-fails, check-done}
@@ -44,31 +42,7 @@ module _ (blocking : ℕ) (s : List ℕ) (at : Place) {number : ℕ} {q : Place}
   unfolding timeOf numberAllowed
   sample-time f = time-got (rw f) ∙ rw f
 
--- ---- the size and the rate, by their codes
-
-module _ {code : ℕ} where
-  pub size-first : code ≡ 1 → blockSize code ≡ done 192
-  unfolding blockSize
-  size-first f = rw f
-
-  pub size-low : (code ≡ 1 → ⊥) → code ≤ 5 → blockSize code ≡ done (144 * 2 ^ code % 2 ^ 64)
-  unfolding blockSize
-  size-low f l =
-      rw (ne-eqb _ _ f, le-leb _ _ l) (ap done (sym (mod-eq-of-lt (omega (arith, pow-mono {i = code} {j = 5} l)))))
-
-  pub size-8 : code ≡ 6 → blockSize code ≡ bits 8 >>= (λ v. done (v + 1))
-  unfolding blockSize
-  size-8 f = rw f
-
-  pub size-16 : code ≡ 7 → blockSize code ≡ bits 16 >>= (λ v. require (ltb v 65535) 4 >> done (v + 1))
-  unfolding blockSize
-  size-16 f = rw f
-
-  pub size-high : 7 < code → code < 16 → blockSize code ≡ done (1 * 2 ^ code % 2 ^ 64)
-  unfolding blockSize
-  size-high f l =
-      rw (ne-eqb code 1 (λ e. omega arith), lt-leb code 5 (omega arith), ne-eqb code 6 (λ e. omega arith), ne-eqb code 7 (λ e. omega arith))
-      (ap done (let few = pow-mono {i = code} {j = 15} (omega arith) in sym (mod-eq-of-lt (omega arith) ∙ omega arith)))
+-- ---- the rate, by its code
 
 pub rate-few : (code : ℕ) → rateBits code ≤ 16
 unfolding rateBits

@@ -3,8 +3,37 @@
 use error::Refusal;
 use rfc9639::ChannelAssignment;
 ghost use mathlib.Core.Path.{_≡_};
-ghost use Rattle.rfc9639.specs.HeaderCodes.{sizeCode, rateBits, assignment, channelCount, bitDepth, bitsCode};
-ghost use Rattle.header_codes.specs.Answers.{depthAsk};
+ghost use Prim.Native.Nat.{_%_};
+ghost use Rattle.rfc9639.specs.HeaderCodes.{blockSize, sizeCode, rateBits, assignment, channelCount, bitDepth, bitsCode};
+ghost use Rattle.header_codes.specs.Answers.{sizeAsk, depthAsk};
+
+// What the code of a block size says: the size in samples, or that the size less one follows the coded number (RFC
+// 9639 section 9.1.6), in one byte or in two.
+pub enum BlockSize {
+    Samples(u64),
+    InByte,
+    InTwoBytes,
+}
+
+// RFC 9639 section 9.1.1. A code has four bits; any above them are ignored. Callers refuse code 0, reserved, before.
+pub fn block_size(code: u64) -> BlockSize
+    ensures { λ r. ⌜ sizeAsk r ≡ blockSize (code % 16) ⌝ }
+{
+    let low = code % 16;
+    if low == 1 {
+        return BlockSize::Samples(192);
+    }
+    if low <= 5 {
+        return BlockSize::Samples(144 << low);
+    }
+    if low == 6 {
+        return BlockSize::InByte;
+    }
+    if low == 7 {
+        return BlockSize::InTwoBytes;
+    }
+    BlockSize::Samples(1 << low)
+}
 
 // The code of a block size (RFC 9639 section 9.1.1): 6 or 7 where the size itself is stored after the coded number.
 pub fn size_code(n: usize) -> u64
