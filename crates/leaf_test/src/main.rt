@@ -16,6 +16,8 @@ fn main() {
     numbers::wraps();
     numbers::shifts();
     numbers::lessers();
+    numbers::right_shifts();
+    numbers::differences();
     blocks::blocks();
     subframes::subframe_cases();
     subframes::partition_boundaries();

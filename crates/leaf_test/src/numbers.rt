@@ -9,7 +9,9 @@ use crate::show::value32;
 use crate::show::wide;
 use number::lesser;
 use number::low32;
+use number::saturating_sub;
 use number::shift_down;
+use number::shift_right;
 use number::shift_up;
 use number::wrapping_add;
 use number::wrapping_sub;
@@ -81,6 +83,24 @@ fn less(a: usize, b: usize) {
     show_number(b' ', b as u64);
     equals();
     show_number(b' ', lesser(a, b) as u64);
+    mark(b'\n');
+}
+
+fn right(v: u64, k: u32) {
+    text(b"shift_right");
+    show_number(b' ', v);
+    show_number(b' ', k as u64);
+    equals();
+    show_number(b' ', shift_right(v, k));
+    mark(b'\n');
+}
+
+fn minus(a: usize, b: usize) {
+    text(b"saturating_sub");
+    show_number(b' ', a as u64);
+    show_number(b' ', b as u64);
+    equals();
+    show_number(b' ', saturating_sub(a, b) as u64);
     mark(b'\n');
 }
 
@@ -191,4 +211,22 @@ pub fn lessers() {
     less(18446744073709551615, 0);
     less(5, 5);
     less(65534, 65535);
+}
+
+// A shift of an unsigned number by 0, by all but one of its bits, by all of them, and by more.
+pub fn right_shifts() {
+    right(18446744073709551615, 0);
+    right(18446744073709551615, 63);
+    right(18446744073709551615, 64);
+    right(18446744073709551615, 4294967295);
+    right(6, 1);
+}
+
+// A difference above zero, of zero, and one that stops at zero.
+pub fn differences() {
+    minus(18446744073709551615, 0);
+    minus(5, 4);
+    minus(5, 5);
+    minus(4, 5);
+    minus(0, 18446744073709551615);
 }

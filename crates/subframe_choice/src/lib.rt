@@ -1,5 +1,5 @@
-// Which way of storing a channel takes the fewest bits, by rfc9639's specs/Coding.antt. The function answers on every
-// argument.
+// Which way of storing a channel takes the fewest bits, by rfc9639's specs/SubframeCoding.antt. The function answers
+// on every argument.
 mod offer;
 mod plain;
 mod tally;

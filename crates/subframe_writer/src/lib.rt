@@ -1,5 +1,6 @@
-// A channel of a frame as the writer stores it (RFC 9639 section 9.2), by rfc9639's specs/Coding.antt. The public
-// function answers on every argument. Each private one writes a piece of the definition, which its contract names.
+// A channel of a frame as the writer stores it (RFC 9639 section 9.2), by rfc9639's specs/SubframeCoding.antt. The
+// public function answers on every argument. Each private one writes a piece of the definition, which its contract
+// names.
 mod residual;
 
 use bit_writer::Pen;
