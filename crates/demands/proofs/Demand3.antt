@@ -73,20 +73,20 @@ more-room s b more lacks =
 -- ---- 4. What the buffer held before does not affect the answer, and remains only where nothing is written.
 
 -- how many samples are written, by the bytes and the room alone
-pub written : List ℕ → ℕ → ℕ
-written s room = length (result (record { room = room }) s .front)
+pub placesWritten : List ℕ → ℕ → ℕ
+placesWritten s room = length (result (record { room = room }) s .front)
 
 -- they are within the buffer
-pub written-room : (s : List ℕ) (room : ℕ) → written s room ≤ room
-unfolding written
-written-room s room = Results.front-room (record { room = room }) s
+pub placesWritten-room : (s : List ℕ) (room : ℕ) → placesWritten s room ≤ room
+unfolding placesWritten
+placesWritten-room s room = Results.front-room (record { room = room }) s
 
-written-first : (s : List ℕ) (b : List ℤ) → take (written s (length b)) (read s b .buffer) ≡ result (record { room = length b }) s .front
-unfolding read written
-written-first s b = take-append-seam (result (record { room = length b }) s .front) _
+placesWritten-first : (s : List ℕ) (b : List ℤ) → take (placesWritten s (length b)) (read s b .buffer) ≡ result (record { room = length b }) s .front
+unfolding read placesWritten
+placesWritten-first s b = take-append-seam (result (record { room = length b }) s .front) _
 
-pub untouched-after : (s : List ℕ) (b : List ℤ) → drop (written s (length b)) (read s b .buffer) ≡ drop (written s (length b)) b
-unfolding read written
+pub untouched-after : (s : List ℕ) (b : List ℤ) → drop (placesWritten s (length b)) (read s b .buffer) ≡ drop (placesWritten s (length b)) b
+unfolding read placesWritten
 untouched-after s b = drop-append-seam (result (record { room = length b }) s .front) _
 
 module _ (s : List ℕ) (b b′ : List ℤ) (e : length b ≡ length b′) where
@@ -94,10 +94,10 @@ module _ (s : List ℕ) (b b′ : List ℤ) (e : length b ≡ length b′) where
   unfolding read
   report-ignores-buffer = ap (λ n. result (record { room = n }) s .report) e
 
-  pub front-ignores-buffer : take (written s (length b)) (read s b .buffer) ≡ take (written s (length b)) (read s b′ .buffer)
+  pub front-ignores-buffer : take (placesWritten s (length b)) (read s b .buffer) ≡ take (placesWritten s (length b)) (read s b′ .buffer)
   front-ignores-buffer =
-      written-first s b ∙ ap (λ n. result (record { room = n }) s .front) e ∙ sym (written-first s b′)
-      ∙ ap (λ n. take (written s n) (read s b′ .buffer)) (sym e)
+      placesWritten-first s b ∙ ap (λ n. result (record { room = n }) s .front) e ∙ sym (placesWritten-first s b′)
+      ∙ ap (λ n. take (placesWritten s n) (read s b′ .buffer)) (sym e)
 
 -- ---- Besides: the number is one of document 01's; the buffer keeps its length; an accepted frame writes N samples,
 -- channels times block size, each of 32 bits.
@@ -122,9 +122,9 @@ module _ (s : List ℕ) (b : List ℤ) (frame-read : read s b .report .number �
       let w = subst (Meets Listed (FrameInRoom set)) (r .ran) (holds-at Listed (FrameInRoom set) s (placeOf 0) (frame-holds set)) in
       subst (λ (q : Result). Sized (q .report .channels * q .report .size) Sample (q .front)) (sym (r .is)) (w .samples)
 
-  pub accepted-count : written s (length b) ≡ read s b .report .channels * read s b .report .size
-  unfolding written
+  pub accepted-count : placesWritten s (length b) ≡ read s b .report .channels * read s b .report .size
+  unfolding placesWritten
   accepted-count = samples-sized .count
 
   pub accepted-samples : Every Sample (take (read s b .report .channels * read s b .report .size) (read s b .buffer))
-  accepted-samples = rw (← accepted-count, written-first s b) (samples-sized .every)
+  accepted-samples = rw (← accepted-count, placesWritten-first s b) (samples-sized .every)

@@ -6,7 +6,7 @@ use mathlib.Core.List.{List}
 use lib.IntN.{ℤ}
 use lib.ListN.{length}
 use Rattle.rfc9639.specs.Read.{Report, read}
-use Rattle.demands.proofs.Demand3.{length-kept, counted-there, accepted-count, written-room}
+use Rattle.demands.proofs.Demand3.{length-kept, counted-there, accepted-count, placesWritten-room}
 use Rattle.frame.specs.declared.Accepted.{Accepted}
 use Rattle.frame.specs.declared.ReadAnswer.{ReadAnswer}
 use Rattle.frame.specs.Reads.{reportOf, Reads}
@@ -28,4 +28,4 @@ module _ (s : List ℕ) (b : List ℤ) {left : List ℤ} {r : ReadAnswer} (h : R
     pub samples-there : f .channels * f .size ≤ length b
     samples-there =
         subst (λ (q : Report). q .channels * q .size ≤ length b) (sym reported)
-        (omega (arith, written-room s (length b), accepted-count s b zero-number))
+        (omega (arith, placesWritten-room s (length b), accepted-count s b zero-number))

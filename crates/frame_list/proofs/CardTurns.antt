@@ -153,19 +153,19 @@ module _ (room : ℕ) (was : List ℕ) (card : Card) (r : Listed) (sound : Sound
         same = λ more. listed-from-place more ∙ same-end (λ k p. listed room (k .base + p) (k .totals) (drop (r .place) w ++ more));
       }
 
-      told : (how : How) → Wanting (r .refusal) how → Accounts room (card .base) (card .totals) w last how
-      told (How.Ended x) e = lists .all ∙ ap (λ y. record { place = card .base + r .place; totals = r .totals; number = numberOf y }) (sym e) ∙ same-end (λ k p. record { place = k .base + p; totals = k .totals; number = numberOf x })
-      told (How.Refused x) e = absurd e
-      told (How.Unread error) e = unfinished
-      told How.TooLong e = unfinished
-      told How.TooFar e = unfinished
+      accounts-by-end : (how : How) → Wanting (r .refusal) how → Accounts room (card .base) (card .totals) w last how
+      accounts-by-end (How.Ended x) e = lists .all ∙ ap (λ y. record { place = card .base + r .place; totals = r .totals; number = numberOf y }) (sym e) ∙ same-end (λ k p. record { place = k .base + p; totals = k .totals; number = numberOf x })
+      accounts-by-end (How.Refused x) e = absurd e
+      accounts-by-end (How.Unread error) e = unfinished
+      accounts-by-end How.TooLong e = unfinished
+      accounts-by-end How.TooFar e = unfinished
 
       stops : Stops room was card last
       stops = record {
         same-base = ap (λ (k : Card). k .base) (c .same-card);
         same-held = ap (λ (k : Card). k .held) (c .same-card);
         place-fits = omega (arith, c .same-place, listed-place-held);
-        accounts = told (last .how) (c .how);
+        accounts = accounts-by-end (last .how) (c .how);
       }
 
     pub turns : (left : List ℕ) → length left ≡ length was → (t : Turn) → Refills was read (r .place) (r .refusal) t left → Turns room was card t left

@@ -47,21 +47,21 @@ first-is set = go (eqb (set .blocking) 0)
     go false = refl
 
 module _ (set : FrameSetting) (xs : List ℤ) (rest : List ℕ) (room : ℕ) where
-  abbrev written : Frame
-  written = record { header = headerOf set; samples = xs }
+  abbrev writtenFrame : Frame
+  writtenFrame = record { header = headerOf set; samples = xs }
 
   abbrev end : Place
   end = record { byte = length (frameBytes set xs); bit = 0 }
 
   -- bytes whose bits spell a frame are read as that frame
-  run-frame : Spells [] (frame (record { room = room })) (frameBits set xs) written
-      → runAt (frame (record { room = room })) (frameBytes set xs ++ rest) (placeOf 0) ≡ gotAt written end
+  run-frame : Spells [] (frame (record { room = room })) (frameBits set xs) writtenFrame
+      → runAt (frame (record { room = room })) (frameBytes set xs ++ rest) (placeOf 0) ≡ gotAt writtenFrame end
   unfolding toAt
   run-frame s =
       runAt-in (frame (record { room = room })) (start-in (frameBytes set xs ++ rest))
       ∙ ap (λ t. toAt (run (frame (record { room = room })) t 0)) (bitsOfBytes-append (frameBytes set xs) rest ∙ ap (λ t. t ++ bitsOfBytes rest) (bits-of-frame set xs))
       ∙ ap toAt (s .reads (bitsOfBytes rest))
-      ∙ ap (gotAt written) (sym (place-is (length (frameBytes set xs)) 0 (0 + length (frameBits set xs)) (omega arith) (omega (arith, length-frameBits set xs))))
+      ∙ ap (gotAt writtenFrame) (sym (place-is (length (frameBytes set xs)) 0 (0 + length (frameBits set xs)) (omega arith) (omega (arith, length-frameBits set xs))))
 
 -- the report on a written frame
 abbrev pub writtenReport : FrameSetting → ℕ → ℕ → Report

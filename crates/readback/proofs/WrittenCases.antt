@@ -25,9 +25,9 @@ pub record WrittenCases : Type 0 where
   pub side-right : write (setting 9 8 1 68719476735 12) (minus 125 ∷ minus 118 ∷ minus 97 ∷ minus 62 ∷ minus 13 ∷ pos 50 ∷ minus 124 ∷ minus 33 ∷ pos 72 ∷ minus 60 ∷ pos 73 ∷ minus 31 ∷ minus 20 ∷ minus 17 ∷ minus 14 ∷ minus 11 ∷ minus 8 ∷ minus 5 ∷ minus 2 ∷ pos 1 ∷ pos 4 ∷ pos 7 ∷ pos 10 ∷ pos 13 ∷ []) (replicate 36 7)
       ≡ record { number = 0; length = 35; output = hex 35 0xfff96092febfbfbfbfbfbf0b5b02cbe6f5bcdfd8df0dde226f47fd414ecef003ff3d03 ++ 7 ∷ [] }
 
-pub written : WrittenCases
+pub written-cases : WrittenCases
 unfolding computedWrite
-written = record {
+written-cases = record {
   one-zero = refl;
   mid-side-tie = refl;
   three-channels = refl;

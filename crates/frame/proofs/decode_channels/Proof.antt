@@ -17,14 +17,14 @@ abbrev μ-loop : tie.MeasureT-loop
 μ-loop s h out₀ c n count p₀ start₀ channel₀ out p start channel = count - channel
 
 -- as many widths as channels
-counted : (c : tie.After-channel-count Inv-loop μ-loop)
+widths-count : (c : tie.After-channel-count Inv-loop μ-loop)
     → length (widths (c .before .before .args .h .channels) (c .before .before .args .h .bits)) ≡ c .channel-count .result
-counted c = length-widths (c .before .before .args .h .channels) (c .before .before .args .h .bits) ∙ sym (c .channel-count .ensures)
+widths-count c = length-widths (c .before .before .args .h .channels) (c .before .before .args .h .bits) ∙ sym (c .channel-count .ensures)
 
 -- each turn has a width
 wide : (c : tie.In-loop Inv-loop μ-loop)
     → c .before .loop .channel < length (widths (c .before .before .before .before .args .h .channels) (c .before .before .before .before .args .h .bits))
-wide c = omega (arith, counted (c .before .before))
+wide c = omega (arith, widths-count (c .before .before))
 
 few : (c : tie.In-loop Inv-loop μ-loop)
     → getD (widths (c .before .before .before .before .args .h .channels) (c .before .before .before .before .args .h .bits)) (c .before .loop .channel) 0 ≤ 32
@@ -95,7 +95,7 @@ same-length-2 : tie.Need-same-length-2 Inv-loop μ-loop
 same-length-2 c = c .before .loop .inv .long
 
 returns-2 : tie.Need-returns-2 Inv-loop μ-loop
-returns-2 c = end (c .before .loop .inv) (omega (arith, counted (c .before .before), c .before .before .channel-count .ensures, c .before .before .before .before .pre .0)) (omega (arith, counted (c .before .before)))
+returns-2 c = end (c .before .loop .inv) (omega (arith, widths-count (c .before .before), c .before .before .channel-count .ensures, c .before .before .before .before .pre .0)) (omega (arith, widths-count (c .before .before)))
 
 pub decode-channels-spec : {M : Type 1} → statement M
 decode-channels-spec =

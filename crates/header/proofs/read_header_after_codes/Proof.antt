@@ -67,19 +67,19 @@ module _ (c : tie.After-block) where
   size-byte = moves-at _ _ _ (size-whole _) (time-byte timed) size-is
 
 -- the code says how many bits the rate has
-counted : (c : tie.After-rate-bits) → c .rate-bits .result ≤ 64
-counted c = omega (arith, c .rate-bits .ensures, rate-few (begun (c .before .before) .args .c .rate))
+rate-fits : (c : tie.After-rate-bits) → c .rate-bits .result ≤ 64
+rate-fits c = omega (arith, c .rate-bits .ensures, rate-few (begun (c .before .before) .args .c .rate))
 
 rate-short : (c : tie.After-enum-told)
     → let b = c .before .before .before .before .before in runAt (bits (rateBits (begun b .args .c .rate))) (begun b .args .s .now) (b .block .given .0 .1 .0) ≡ shortAt
-rate-short c = rw (← c .before .before .before .rate-bits .ensures) (read-short _ _ _ (counted (c .before .before .before)) (c .before .before .read-bits .ensures) (c .enum-told .given .1))
+rate-short c = rw (← c .before .before .before .rate-bits .ensures) (read-short _ _ _ (rate-fits (c .before .before .before)) (c .before .before .read-bits .ensures) (c .enum-told .given .1))
 
 module _ (c : tie.After-rate) where
   abbrev sized : tie.After-block
   sized = c .before .before .before .before .before
 
   rate-is : runAt (bits (rateBits (begun sized .args .c .rate))) (begun sized .args .s .now) (sized .block .given .0 .1 .0) ≡ gotAt (c .rate .given .0 .0) (c .rate .given .0 .1 .0)
-  rate-is = rw (← c .before .before .before .rate-bits .ensures) (read-got _ _ _ (counted (c .before .before .before)) (c .before .before .read-bits .ensures) (c .rate .given .1))
+  rate-is = rw (← c .before .before .before .rate-bits .ensures) (read-got _ _ _ (rate-fits (c .before .before .before)) (c .before .before .read-bits .ensures) (c .rate .given .1))
 
   rate-byte : c .rate .given .0 .1 .0 .bit ≡ 0
   rate-byte = moves-at _ _ _ (rate-whole _) (size-byte sized) rate-is

@@ -14,8 +14,8 @@ module _ (c : tie.Start) {which : ChannelAssignment} (e : c .args .channels ≡ 
   count : length (c .args .out .now) ≡ channelCount which * c .args .n
   count = c .pre ∙ ap (λ a. channelCount a * c .args .n) e
 
-  told : leftAndRight which (c .args .n) (c .args .out .now) ≡ leftAndRight (c .args .channels) (c .args .n) (c .args .out .now)
-  told = ap (λ a. leftAndRight a (c .args .n) (c .args .out .now)) (sym e)
+  same-channels : leftAndRight which (c .args .n) (c .args .out .now) ≡ leftAndRight (c .args .channels) (c .args .n) (c .args .out .now)
+  same-channels = ap (λ a. leftAndRight a (c .args .n) (c .args .out .now)) (sym e)
 
 enum-told : tie.Need-enum-told
 enum-told c = search needs
@@ -43,25 +43,25 @@ decode-mid-side-requires c κs = count (c .before .before .before) (c .before .e
 
 returns : tie.Need-returns
 unfolding leftAndRight
-returns c = told (c .before .before) (c .enum-told .given .1)
+returns c = same-channels (c .before .before) (c .enum-told .given .1)
 
 same-length : tie.Need-same-length
 same-length c = search needs
 
 returns-2 : tie.Need-returns-2
-returns-2 c = c .before .decode-left-side .ensures ∙ told (c .before .before .before .before .before) (c .before .before .before .enum-told2 .given .1)
+returns-2 c = c .before .decode-left-side .ensures ∙ same-channels (c .before .before .before .before .before) (c .before .before .before .enum-told2 .given .1)
 
 same-length-2 : tie.Need-same-length-2
 same-length-2 c = search needs
 
 returns-3 : tie.Need-returns-3
-returns-3 c = c .before .decode-right-side .ensures ∙ told (c .before .before .before .before .before) (c .before .before .before .enum-told3 .given .1)
+returns-3 c = c .before .decode-right-side .ensures ∙ same-channels (c .before .before .before .before .before) (c .before .before .before .enum-told3 .given .1)
 
 same-length-3 : tie.Need-same-length-3
 same-length-3 c = search needs
 
 returns-4 : tie.Need-returns-4
-returns-4 c = c .before .decode-mid-side .ensures ∙ told (c .before .before .before .before .before) (c .before .before .before .enum-told4 .given .1)
+returns-4 c = c .before .decode-mid-side .ensures ∙ same-channels (c .before .before .before .before .before) (c .before .before .before .enum-told4 .given .1)
 
 pub join-spec : {M : Type 1} → statement M
 join-spec =

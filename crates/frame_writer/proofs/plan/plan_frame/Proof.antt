@@ -37,15 +37,15 @@ mul-choices c = search needs
 array-set-from-choices : tie.Need-array-set-from-choices Inv-loop μ-loop
 array-set-from-choices c = search needs
 
-counted : (c : tie.After-choose-lane Inv-loop μ-loop)
+next-counted : (c : tie.After-choose-lane Inv-loop μ-loop)
     → let l = c .before .before in let set = l .before .before .args .set in
     Counted (set .bits) (set .size) (l .before .before .args .samples .now) (assignment (set .channels)) (l .loop .bits + c .choose-lane .result .bits) (l .loop .c + 1)
-counted c =
+next-counted c =
     let l = c .before .before in let r = l .before .before .pre in
     counted-more _ _ _ _ (l .loop .inv .1) (r .1) (r .2) (c .choose-lane .ensures)
 
 add-bits : tie.Need-add-bits Inv-loop μ-loop
-add-bits c = record { fits = omega (arith, counted (c .before) .small) }
+add-bits c = record { fits = omega (arith, next-counted (c .before) .small) }
 
 add-c : tie.Need-add-c Inv-loop μ-loop
 add-c c = search needs
@@ -56,7 +56,7 @@ loop-less c = search needs
 loop-again : tie.Need-loop-again Inv-loop μ-loop
 loop-again c =
     let i = c .before .before in
-    (step _ _ (i .before .loop .inv .0) (i .loop-test .taken) _ (c .before .choose-lane .ensures), counted (c .before))
+    (step _ _ (i .before .loop .inv .0) (i .loop-test .taken) _ (c .before .choose-lane .ensures), next-counted (c .before))
 
 returns : tie.Need-returns Inv-loop μ-loop
 returns c =
