@@ -1,16 +1,22 @@
 -- A whole input, frame by frame: the list of answers, one step at a time. Assumes nothing.
 use Prim.Native.Nat.{ℕ, zero, suc, _≤_, _<_}
 use native.Mathlib.Omega.{arith}
-use mathlib.Core.Path.{_≡_, refl, ap, sym, _∙_}
+use mathlib.Core.Logic.{_≢_}
+use mathlib.Core.Path.{_≡_, refl, ap, sym, _∙_, subst}
 use mathlib.Core.List.{List, [], _∷_, _++_}
 use lib.ListN.{length, take, drop, length-drop}
+use Rattle.reading.specs.declared.Place.{Place}
 use Rattle.reading.specs.Readers.{bitsFrom, reply, follow, run, _>>=_, bits}
 use Rattle.reading.specs.Bytes.{bitsOfBytes}
-use Rattle.reading.specs.Places.{runAt, inside, toAt}
+use Rattle.reading.specs.Places.{placeOf, At, gotAt, refusedAt, shortAt, runAt, inside, toAt}
+use Rattle.reading.proofs.Postconditions.{Meets, holds-at}
+use Rattle.rfc9639.specs.declared.FrameHeader.{FrameHeader}
 use Rattle.rfc9639.specs.Header.{sync, codes, header}
-use Rattle.rfc9639.specs.Frame.{ReaderSettings, opening}
-use Rattle.rfc9639.specs.Read.{Result, refusal, untouched, cutShort, begun, resultOf, result}
+use Rattle.rfc9639.specs.Frame.{ReaderSettings, opening, Frame, frame}
+use Rattle.rfc9639.specs.Read.{Result, refusal, accepted, untouched, zeroed, cutShort, begun, finished, resultOf, result}
 use Rattle.rfc9639.specs.FrameByFrame.{Verdict, accept, undecided, refuse, verdictOf, verdict, goesOn, answersUpTo, answers}
+use Rattle.demands.proofs.Headers.{Listed, Early}
+use Rattle.demands.proofs.FrameSamples.{HeaderInRoom, FrameInRoom, begun-holds, frame-holds}
 use Rattle.demands.proofs.Results
 
 -- ---- verdicts and numbers
@@ -21,6 +27,13 @@ accept-zero zero e = refl
 accept-zero (suc zero) e = absurd (let z : _≡_ {A = ℕ} 0 1 = cc in omega arith)
 accept-zero (suc (suc zero)) e = absurd (let z : _≡_ {A = ℕ} 0 1 = cc in omega arith)
 accept-zero (suc (suc (suc n))) e = absurd (let z : _≡_ {A = ℕ} 0 1 = cc in omega arith)
+
+pub undecided-two : (n : ℕ) → verdictOf n ≡ undecided → (1 ≤ n) × (n ≤ 2)
+unfolding verdictOf
+undecided-two zero e = absurd (let z : _≡_ {A = ℕ} 0 1 = cc in omega arith)
+undecided-two (suc zero) e = (omega arith, omega arith)
+undecided-two (suc (suc zero)) e = (omega arith, omega arith)
+undecided-two (suc (suc (suc n))) e = absurd (let z : _≡_ {A = ℕ} 0 1 = cc in omega arith)
 
 -- equal numbers have the same verdict
 pub verdict-is : {n m : ℕ} {k : Verdict} → n ≡ m → verdictOf m ≡ k → verdictOf n ≡ k
@@ -33,6 +46,16 @@ pub record Lawful (one : List ℕ → Result) : Type 0 where
   pub extended : (s t : List ℕ) → (verdict (one s) ≡ undecided → ⊥) → one (s ++ t) ≡ one s
   pub there : (s : List ℕ) → verdict (one s) ≡ accept → one s .report .consumed ≤ length s
   pub some : (s : List ℕ) → verdict (one s) ≡ accept → 0 < one s .report .consumed
+
+-- A refusal consumes no bytes. An answer that more bytes may change is 2, or 1 for an empty input.
+pub record Numbered (one : List ℕ → Result) : Type 0 where
+  pub bare : (s : List ℕ) → (verdict (one s) ≡ accept → ⊥) → one s .report .consumed ≡ 0
+  pub cut : (s : List ℕ) → verdict (one s) ≡ undecided → one s .report .number ≡ cutShort s
+
+-- An accepted frame's consumed bytes suffice for its answer, and no fewer do.
+pub record Counted (one : List ℕ → Result) : Type 0 where
+  pub suffice : (s : List ℕ) → verdict (one s) ≡ accept → one (take (one s .report .consumed) s) ≡ one s
+  pub fewer : (s : List ℕ) → verdict (one s) ≡ accept → (m : ℕ) → m < one s .report .consumed → verdict (one (take m s)) ≡ undecided
 
 -- ---- the list, one step at a time
 
@@ -92,4 +115,54 @@ module _ (set : ReaderSettings) where
     extended = λ s t known. Results.extended set s t (λ e. known (verdict-is e refl)) (λ e. known (verdict-is e refl));
     there = λ s e. Results.there set s (accept-zero (result set s .report .number) e);
     some = λ s e. some-byte s (accept-zero (result set s .report .number) e);
+  }
+
+  -- every answer but a frame is a refusal, which consumes no bytes
+  pub bare : (s : List ℕ) → result set s .report .number ≢ 0 → result set s .report .consumed ≡ 0
+  unfolding result resultOf finished untouched zeroed refusal accepted
+  bare s = go (runAt (begun set) s (placeOf 0)) (runAt (frame set) s (placeOf 0))
+    where
+      go : (x : At FrameHeader) (y : At Frame) → resultOf s x y .report .number ≢ 0 → resultOf s x y .report .consumed ≡ 0
+      go (gotAt h p) (gotAt f end) n = absurd (n refl)
+      go (gotAt h p) (refusedAt m) n = refl
+      go (gotAt h p) shortAt n = refl
+      go (refusedAt m) y n = refl
+      go shortAt y n = refl
+
+  not-begun : runAt (begun set) [] (placeOf 0) ≡ shortAt
+  unfolding begun opening header codes sync bits _>>=_ runAt inside toAt run follow reply bitsFrom bitsOfBytes
+  not-begun = refl
+
+  -- cut short is 1 for an empty input, else 2
+  pub cut : (s : List ℕ) → 1 ≤ result set s .report .number → result set s .report .number ≤ 2 → result set s .report .number ≡ cutShort s
+  unfolding result resultOf finished untouched zeroed refusal accepted cutShort
+  cut s = go (runAt (begun set) s (placeOf 0)) refl (runAt (frame set) s (placeOf 0)) refl
+    where
+      begun-some : (s : List ℕ) {h : FrameHeader} {p : Place} → runAt (begun set) s (placeOf 0) ≡ gotAt h p → 2 ≡ cutShort s
+      begun-some [] e = absurd (let f = not-begun in let z : _≡_ {A = ℕ} 0 1 = cc in omega arith)
+      begun-some (b ∷ s) e = refl
+
+      go : (x : At FrameHeader) → runAt (begun set) s (placeOf 0) ≡ x → (y : At Frame) → runAt (frame set) s (placeOf 0) ≡ y
+          → 1 ≤ resultOf s x y .report .number → resultOf s x y .report .number ≤ 2 → resultOf s x y .report .number ≡ cutShort s
+      go (gotAt h p) e (gotAt f end) g a b = absurd (omega arith)
+      go (gotAt h p) e (refusedAt n) g a b = absurd (omega (arith, subst (Meets Listed (FrameInRoom set)) g (holds-at Listed (FrameInRoom set) s (placeOf 0) (frame-holds set))))
+      go (gotAt h p) e shortAt g a b = begun-some s e
+      go (refusedAt n) e y g a b = absurd (omega (arith, subst (Meets Early (HeaderInRoom set)) e (holds-at Early (HeaderInRoom set) s (placeOf 0) (begun-holds set))))
+      go shortAt e y g a b = refl
+
+  pub numbered : Numbered (result set)
+  unfolding verdictOf
+  numbered = record {
+    bare = λ s n. bare s (λ e. n (verdict-is e refl));
+    cut = λ s e. let b = undecided-two (result set s .report .number) e in cut s (b .0) (b .1);
+  }
+
+  pub counted : Counted (result set)
+  unfolding verdictOf
+  counted = record {
+    suffice = λ s e. Results.suffice set s (accept-zero (result set s .report .number) e);
+    fewer = λ s e. elim [
+      | zero ↦ λ l. verdict-is nothing-left refl
+      | suc m ↦ λ l. verdict-is (Results.fewer set s (accept-zero (result set s .report .number) e) (suc m) (omega arith) l) refl
+    ];
   }

@@ -230,7 +230,7 @@ footer-holds : Holds Late Some footer
 unfolding footer
 footer-holds =
     holds-bind _ holds-passed
-    (λ codedResiduals _. holds-bind _ (holds-bits _)
+    (λ coded _. holds-bind _ (holds-bits _)
     (λ pad _. holds-bind _ holds-passed
     (λ before _. holds-bind _ (holds-bits 16) (λ sum _. holds-weaken (λ _ _. tt) (holds-require _ 10 frame-sum)))))
 

@@ -108,21 +108,21 @@ module _ (s : List ℕ) (b : List ℤ) where
         no-first-bit f = reads-untouched CutShort (cases.no-first-bit set s e some-bits fits f ∙ ap untouched (cutShort-nonempty s some-bytes))
 
         -- what the decoder of the body left is the front of the buffer
-        module _ {v : ℕ} {q : Place} (f : runAt (bits 1) s p ≡ gotAt v q) {r : Decoded} {front left : List ℤ} (told : Left (runAt (body h) s p) (sampleCount h) r front)
+        module _ {v : ℕ} {q : Place} (f : runAt (bits 1) s p ≡ gotAt v q) {r : Decoded} {front left : List ℤ} (leaves : Left (runAt (body h) s p) (sampleCount h) r front)
             (stands : left ≡ front ++ drop (sampleCount h) b) where
           pub body-read : {end : Place} → r ≡ Done end → length front ≡ sampleCount h → {first channels : ℕ} → first ≡ firstSample h → channels ≡ channelCount (h .channels)
               → Reads (read s b) (ReadAnswer.Frame (record { consumed = end .byte; first = first; channels = channels; bits = h .bits; size = h .size })) left
           unfolding accepted
           body-read {end} d long i j =
-              reads-result (cases.body-read set s e some-bits fits f (done-is front (told .answer) d))
+              reads-result (cases.body-read set s e some-bits fits f (done-is front (leaves .answer) d))
               (ap₂ (λ (x y : ℕ). record { number = 0; consumed = end .byte; first = x; channels = y; bits = h .bits; size = h .size }) i j)
               (stands ∙ ap (λ n. front ++ drop n b) (sym long))
 
           pub body-refused : {x : Refusal} → r ≡ Refused x → Reads (read s b) (ReadAnswer.Refused x) left
-          body-refused {x} d = reads-zeroed x h (go (eqb (numberOf x) 2) refl (refused-is front (told .answer) d)) (stands ∙ ap (λ l. l ++ drop (sampleCount h) b) zeros)
+          body-refused {x} d = reads-zeroed x h (go (eqb (numberOf x) 2) refl (refused-is front (leaves .answer) d)) (stands ∙ ap (λ l. l ++ drop (sampleCount h) b) zeros)
             where
               zeros : front ≡ replicate (sampleCount h) (pos 0)
-              zeros = subst (λ y. cleared y (sampleCount h) front) d (told .stopped)
+              zeros = subst (λ y. cleared y (sampleCount h) front) d (leaves .stopped)
 
               go : (y : Bool) → eqb (numberOf x) 2 ≡ y → runAt (body h) s p ≡ cond y shortAt (refusedAt (numberOf x)) → result set s ≡ zeroed (numberOf x) h
               go true g k = cases.body-short set s e some-bits fits f k ∙ ap (λ n. zeroed n h) (sym (eqb-true (numberOf x) 2 g))

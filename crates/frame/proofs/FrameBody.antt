@@ -104,10 +104,10 @@ module _ {n : ℕ} {ws : List ℕ} {s : List ℕ} {at₀ : Place} {l₀ l : List
     part-back v kept = same-len-mid start part l v kept ∙ inv .long
 
     -- by what the decoder of the part answered and left in it
-    module _ {width : ℕ} (is : width ≡ getD ws i 0) (few : getD ws i 0 ≤ 32) (r : Decoded) (v : List ℤ) (told : samplesAt r v ≡ subframeAt width (length (midOf start part l)) s at) where
+    module _ {width : ℕ} (is : width ≡ getD ws i 0) (few : getD ws i 0 ≤ 32) (r : Decoded) (v : List ℤ) (decoded : samplesAt r v ≡ subframeAt width (length (midOf start part l)) s at) where
       part-ran : samplesAt r v ≡ runAt (subframe n (getD ws i 0)) s at
       part-ran =
-          told ∙ ap (λ w. subframeAt w (length (midOf start part l)) s at) is ∙ sym (not-wide (getD ws i 0) (length (midOf start part l)) s at few)
+          decoded ∙ ap (λ w. subframeAt w (length (midOf start part l)) s at) is ∙ sym (not-wide (getD ws i 0) (length (midOf start part l)) s at few)
           ∙ part-size start (start + n) l part-fits (λ m. runAt (subframe m (getD ws i 0)) s at)
           ∙ ap (λ m. runAt (subframe m (getD ws i 0)) s at) (let e : start + n - start ≡ n = omega arith in e)
 
@@ -152,7 +152,7 @@ module _ (h : FrameHeader) (s : List ℕ) (at : Place) where
   pub channels-stop : (n : ℕ) {r : Decoded} {e : Refusal} (l : List ℤ) → samplesAt r l ≡ runAt channelsAsk s at → r ≡ Refused e
       → {out : List ℤ} → out ≡ replicate n (pos 0) → bodyLeft n r out
   unfolding body
-  channels-stop n l told d z = left-refused n l (passed-on channelsAsk s at _ l told d l) d z
+  channels-stop n l ran d z = left-refused n l (passed-on channelsAsk s at _ l ran d l) d z
 
   module _ {l : List ℤ} {p : Place} (got : runAt channelsAsk s at ≡ gotAt l p) where
     pub footer-stops : (n : ℕ) {e : Refusal} → runAt footer s p ≡ refusedBy e → {out : List ℤ} → out ≡ replicate n (pos 0) → bodyLeft n (Refused e) out

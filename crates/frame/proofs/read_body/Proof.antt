@@ -96,11 +96,11 @@ decode-body-requires c κs =
 
 -- a body whose decoding has begun
 module _ (c : tie.After-decode-body) where
-  abbrev told-bit : tie.After-enum-told
-  told-bit = c .before .before
+  abbrev after-bit : tie.After-enum-told
+  after-bit = c .before .before
 
   abbrev inner : tie.Else2
-  inner = told-bit .before .before .before
+  inner = after-bit .before .before .before
 
   abbrev known : tie.After-channel-count
   known = inner .before .before .before
@@ -136,7 +136,7 @@ same-length c = search needs
 
 returns-4 : tie.Need-returns-4
 returns-4 c =
-    let g = c .before .before in let d = g .before .before .before in let t = told-bit d in let k = known d in
+    let g = c .before .before in let d = g .before .before .before in let t = after-bit d in let k = known d in
     body-read (bytes k) (lent k) (header-is k) (inner d .before .if1 .left) (fits (inner d)) (bit-is (bytes k) _ (t .before .before .read-bits .ensures) (t .enum-told .given .1))
     (left d) (stands d) (g .decoded .given .1) (long d) (c .first-sample .ensures) (k .channel-count .ensures)
 
@@ -145,7 +145,7 @@ same-length-2 c = search needs
 
 returns-5 : tie.Need-returns-5
 returns-5 c =
-    let g = c .before in let d = g .before .before .before in let t = told-bit d in let k = known d in
+    let g = c .before in let d = g .before .before .before in let t = after-bit d in let k = known d in
     body-refused (bytes k) (lent k) (header-is k) (inner d .before .if1 .left) (fits (inner d)) (bit-is (bytes k) _ (t .before .before .read-bits .ensures) (t .enum-told .given .1))
     (left d) (stands d) (g .decoded2 .given .1)
 
