@@ -1,5 +1,5 @@
 -- For callers: what an answer says of the definition's question, and a count of the zeros. Assumes nothing.
-use Prim.Native.Nat.{ℕ, suc, _+_, _*_, _-_, _/_, _%_, _^_, _≤_, _<_}
+use Prim.Native.Nat.{ℕ, _+_, _*_, _-_, _/_, _%_, _^_, _≤_, _<_}
 use native.Mathlib.Nat.{mod-eq-of-lt, lt-of-lt-of-le}
 use native.Mathlib.Omega.{arith}
 use mathlib.Core.Path.{_≡_, refl, ap, sym, _∙_}
@@ -102,6 +102,16 @@ module _ (z m : ℕ) (l : m < 2 ^ 32) where
   pub at-most-count : z ≤ m → count z ≤ m
   at-most-count h = ⊎-elim (λ k. omega arith) (λ k. omega arith) (count-cases z)
 
--- one more zero
-pub count-suc : (z : ℕ) → count z + 1 - (count z + 1) / 2 ^ 33 * 2 ^ 32 ≡ count (suc z)
-count-suc z = ⊎-elim (λ h. ⊎-elim (λ k. omega arith) (λ k. omega arith) (count-cases (suc z))) (λ h. ⊎-elim (λ k. omega arith) (λ k. omega arith) (count-cases (suc z))) (count-cases z)
+-- zeros may be counted part by part
+pub count-more : (z m : ℕ) → count (count z + m) ≡ count (z + m)
+count-more z m =
+    ⊎-elim (λ h. ap (λ x. count (x + m)) (h .1))
+    (λ h. ⊎-elim (λ k. absurd (omega arith)) (λ k. ⊎-elim (λ j. absurd (omega arith)) (λ j. omega arith) (count-cases (z + m))) (count-cases (count z + m)))
+    (count-cases z)
+
+-- a count below 2 ^ 33 stands for itself, and one below 2 ^ 33 + 2 ^ 32 is less by 2 ^ 32
+pub count-stays : (c : ℕ) → c < 2 ^ 33 → c ≡ count c
+count-stays c l = ⊎-elim (λ h. omega arith) (λ h. omega arith) (count-cases c)
+
+pub count-back : (c : ℕ) → 2 ^ 33 ≤ c → c < 2 ^ 33 + 2 ^ 32 → c - 2 ^ 32 ≡ count c
+count-back c l h = ⊎-elim (λ k. absurd (omega arith)) (λ k. omega arith) (count-cases c)

@@ -1,21 +1,23 @@
--- The loops of `read_bits` and `read_unary`: each turn reads bits of one byte. Assumes nothing.
+-- Reading bits and counting zeros: in one word, and turn by turn, where each turn takes bits of one byte or one word. Assumes nothing.
 use Prim.Native.Nat.{ℕ, suc, _+_, _*_, _-_, _/_, _%_, _^_, _≤_, _<_}
-use native.Mathlib.Nat.{mod-lt}
-use native.Mathlib.Numerals.{add-one}
+use native.Mathlib.Nat.{add-zero, zero-add, zero-mul, mod-lt, mod-eq-of-lt, lt-of-le-of-lt}
 use native.Mathlib.Omega.{arith}
 use mathlib.Core.Path.{_≡_, refl, ap, ap₂, sym, _∙_}
+use mathlib.Core.Bool.{Bool, true, false}
 use mathlib.Core.List.{List}
+use lib.Count.{leadingZeros}
 use lib.ListN.{length, getD}
-use lib.Pow.{pow-pos}
+use lib.Pow.{pow-pos, shr-shr, shr-le}
 use Rattle.reading.specs.declared.Place.{Place}
 use Rattle.reading.specs.Readers.{bits, zeros, nextBits, nextZeros, reply, bitsFrom}
-use Rattle.reading.specs.Places.{position, placeOf, gotAt, shortAt, runAt}
-use Rattle.reading.proofs.Bits.{bitsReply, zerosReply, chunk-step, bits-out, zero-step, one-step, zeros-out}
-use Rattle.reading.proofs.ByteRuns.{In, place-position, position-place}
+use Rattle.reading.specs.Places.{position, placeOf, inside, gotAt, shortAt, runAt}
+use Rattle.reading.proofs.Bits.{bitsReply, zerosReply, bits-out, zeros-out}
+use Rattle.reading.proofs.Words.{WordAt, byte-at, middle, middle-shifted, bits-pass, zeros-pass, one-ends, leading-one, leading-none}
+use Rattle.reading.proofs.ByteRuns.{In, inside-in, place-position, position-place}
 use Rattle.input.specs.Answers.{low64, count, countedZeros}
-use Rattle.input.proofs.MappedReplies.{mapReply, mapReply-found, mapReply-cut, ask-in}
+use Rattle.input.proofs.MappedReplies.{mapReply, mapReply-found, mapReply-cut, ask-in, ask-out}
 use Rattle.input.proofs.AppendedBits.{word-append}
-use Rattle.input.proofs.Callers.{count-suc, count-few, count-below}
+use Rattle.input.proofs.Callers.{count-more, count-few, count-below}
 
 -- the place m bits later is in the input too
 later-in : {s : List ℕ} {p q : Place} (m : ℕ) → In s p → p .byte < length s → p .bit + m ≤ 8 → q ≡ placeOf (position p + m) → In s q
@@ -71,9 +73,8 @@ module _ (s : List ℕ) (n : ℕ) (p₀ : Place) (left acc : ℕ) (p : Place) (i
           inv .same
           ∙ ap (mapReply (λ v. v % 2 ^ 64))
           (ap (λ k. bitsReply s k (inv .all) (position p)) (let e : left ≡ m + (left - m) = omega arith in e)
-          ∙ chunk-step s (p .byte) (p .bit) m (left - m) (inv .all) b l
-          ∙ ap₂ (bitsReply s (left - m)) (ap (λ y. inv .all * 2 ^ m + y) (sym ex))
-          ((let e : 8 * p .byte + (p .bit + m) ≡ position p + m = omega arith in e) ∙ sym (later-position p m eq)));
+          ∙ bits-pass m (left - m) (inv .all) (middle (p .bit) m b (byte-at s (p .byte) l))
+          ∙ ap₂ (bitsReply s (left - m)) (ap (λ y. inv .all * 2 ^ m + y) (sym ex)) (sym (later-position p m eq)));
     }
 
 -- ---- zeros, of which `zs` were read
@@ -94,30 +95,61 @@ module _ (s : List ℕ) (p₀ : Place) (c : ℕ) (p : Place) (inv : Passed s p�
   pub out-zeros : length s ≤ p .byte → shortAt ≡ countedZeros (runAt zeros s p₀)
   out-zeros l = sym (inv .same ∙ ap (mapReply count) (zeros-out s (position p) (omega arith) (inv .zs)) ∙ mapReply-cut count)
 
-  module _ (b : ℕ) (q : Place) (l : p .byte < length s) (eb : b ≡ bitsIn s p 1) (eq : q ≡ placeOf (position p + 1)) where
-    bit : b ≡ getD s (p .byte) 0 / 2 ^ (7 - p .bit) % 2
-    bit = eb ∙ ap (λ k. getD s (p .byte) 0 / 2 ^ k % 2) (let e : 8 - (p .bit + 1) ≡ 7 - p .bit = omega arith in e)
-
-    next : placeOf (suc (position p)) ≡ q
-    next = ap placeOf (sym (add-one (position p))) ∙ sym eq
-
-    pub end-zeros : b ≡ 1 → gotAt c q ≡ countedZeros (runAt zeros s p₀)
-    end-zeros h =
+  -- a word of n bits, from the place's byte on; q is the number of its leading zeros, without the bits before the place
+  module _ {n w q : ℕ} (l : p .bit ≤ n) (h : WordAt s (8 * p .byte) n w) (e : q ≡ leadingZeros n ((w * 2 ^ p .bit) % 2 ^ n)) where
+    -- the run ends in it
+    pub end-zeros : {r : ℕ} {p′ : Place} → q < n → r ≡ count (c + q) → p′ ≡ placeOf (position p + (q + 1)) → gotAt r p′ ≡ countedZeros (runAt zeros s p₀)
+    end-zeros {r} {p′} k er ep =
+        let d : position p + suc q ≡ position p + (q + 1) = omega arith in
         sym
-        (inv .same ∙ ap (mapReply count) (one-step s (p .byte) (p .bit) (inv .place .bit) l (inv .zs) (sym bit ∙ h))
-        ∙ mapReply-found count (inv .zs) (suc (position p)) ∙ ap₂ gotAt (sym (inv .counts)) next)
+        (inv .same ∙ ap (mapReply count) (one-ends q (inv .zs) (leading-one l h e k)) ∙ mapReply-found count (inv .zs + q) (position p + suc q)
+        ∙ ap₂ gotAt (sym (er ∙ rw (inv .counts) (count-more (inv .zs) q))) (ap placeOf d ∙ sym ep))
 
-    pub less : 8 * length s - position q < 8 * length s - position p
-    less = rw (later-position p 1 eq) (omega (arith, inv .place .bit))
+    -- the run goes through it
+    pub step-zeros : {r : ℕ} {p′ : Place} → n ≤ q → 8 * p .byte + n ≤ 8 * length s → r ≡ count (c + (n - p .bit)) → p′ .bit ≡ 0 → position p′ ≡ 8 * p .byte + n
+        → Passed s p₀ r p′
+    step-zeros {r} {p′} k f er eb ep =
+        let m : ℕ = n - p .bit in
+        let d : position p + m ≡ position p′ = omega arith in
+        record {
+          place = record { bit = omega arith; end = omega arith };
+          zs = inv .zs + m;
+          counts = er ∙ rw (inv .counts) (count-more (inv .zs) m);
+          same = inv .same ∙ ap (mapReply count) (zeros-pass m (inv .zs) (leading-none l h e k) ∙ ap (zerosReply s (inv .zs + m)) d);
+        }
 
-    pub step-zeros : {c′ : ℕ} → (b ≡ 1 → ⊥) → c′ ≡ c + 1 - (c + 1) / 2 ^ 33 * 2 ^ 32 → Passed s p₀ c′ q
-    step-zeros {c′} h e = record {
-      place = later-in 1 (inv .place) l (omega (arith, inv .place .bit)) eq;
-      zs = suc (inv .zs);
-      counts = e ∙ rw (inv .counts) (count-suc (inv .zs));
-      same =
-          inv .same
-          ∙ ap (mapReply count)
-          (zero-step s (p .byte) (p .bit) (inv .place .bit) l (inv .zs) (sym bit ∙ (let d : b ≡ 0 = omega arith in d))
-          ∙ ap (zerosReply s (suc (inv .zs))) (sym (add-one (position p)) ∙ sym (later-position p 1 eq)));
-    }
+-- no zeros are read after the last byte
+pub unary-out : (s : List ℕ) (p : Place) → length s ≤ p .byte → shortAt ≡ countedZeros (runAt zeros s p)
+unfolding countedZeros
+unary-out s p l = go (inside s p) refl
+  where
+    go : (b : Bool) → inside s p ≡ b → shortAt ≡ countedZeros (runAt zeros s p)
+    go true e = out-zeros s p 0 p (begin-zeros s p (inside-in s p e)) l
+    go false e = sym (ask-out count zeros s p e)
+
+-- ---- the first word
+
+module _ (s : List ℕ) (at : Place) (w : ℕ) (b : at .bit < 8) (l : at .byte + 8 ≤ length s) (h : WordAt s (8 * at .byte) 64 w) where
+  here : In s at
+  here = record { bit = b; end = omega arith }
+
+  pub unary-of-word : {q : ℕ} {p : Place} → q ≡ leadingZeros 64 ((w * 2 ^ at .bit) % 2 ^ 64) → q < 64 → p ≡ placeOf (position at + (q + 1))
+      → gotAt q p ≡ countedZeros (runAt zeros s at)
+  unary-of-word {q} e k ep =
+      end-zeros s at 0 at (begin-zeros s at here) (omega arith) h e k (sym (ap count (zero-add q) ∙ count-few (omega arith))) ep
+
+  pub bits-of-word : (n : ℕ) {p : Place} → n ≤ 56 → p ≡ placeOf (position at + n) → gotAt ((w * 2 ^ at .bit) % 2 ^ 64 / 2 / 2 ^ (63 - n)) p ≡ low64 (runAt (bits n) s at)
+  unfolding low64 bits reply bitsFrom
+  bits-of-word n {p} k ep =
+      let a : ℕ = at .bit in
+      let v : ℕ = (w * 2 ^ a) % 2 ^ 64 in
+      let x : ℕ = w / 2 ^ (64 - (a + n)) % 2 ^ n in
+      let d : 1 + (63 - n) ≡ 64 - n = omega arith in
+      let f : v / 2 / 2 ^ (63 - n) ≡ x = shr-shr v 1 (63 - n) ∙ ap (λ y. v / 2 ^ y) d ∙ middle-shifted 64 a n w (omega arith) in
+      let small : v / 2 / 2 ^ (63 - n) < 2 ^ 64 = lt-of-le-of-lt (shr-le (v / 2) (63 - n)) (lt-of-le-of-lt (shr-le v 1) (mod-lt (w * 2 ^ a) (pow-pos 64))) in
+      let g : 0 * 2 ^ n + x ≡ v / 2 / 2 ^ (63 - n) = ap (λ y. y + x) (zero-mul (2 ^ n)) ∙ zero-add x ∙ sym f in
+      sym
+      (ask-in (λ y. y % 2 ^ 64) (nextBits n) here
+      ∙ ap (mapReply (λ y. y % 2 ^ 64))
+      (ap (λ m. bitsReply s m 0 (position at)) (sym (add-zero n)) ∙ bits-pass n 0 0 (middle a n (omega arith) h))
+      ∙ mapReply-found (λ y. y % 2 ^ 64) (0 * 2 ^ n + x) (position at + n) ∙ ap₂ gotAt (ap (λ y. y % 2 ^ 64) g ∙ mod-eq-of-lt small) (sym ep))

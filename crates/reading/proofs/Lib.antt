@@ -3,6 +3,7 @@ pub mod TestChains
 pub mod NumbersAsBits
 pub mod BitPrefixes
 pub mod Bits
+pub mod Words
 pub mod ByteRuns
 pub mod BytePrefixes
 pub mod Postconditions

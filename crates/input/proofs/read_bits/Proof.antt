@@ -1,86 +1,61 @@
--- `read_bits`: the bits that are still to be read complete the answer (Unread). Assumes nothing.
+-- `read_bits`: up to 56 bits are a middle piece of the first word. Assumes nothing.
 use native.Mathlib.Omega.{arith}
 use mathlib.Core.Path.{sym}
 use borrow.Author.Needs.{needs}
-use borrow.Author.Tests.{not-true, not-false}
-use Rattle.reading.proofs.ByteRuns.{inside-in}
+use Rattle.reading.proofs.ByteRuns.{outside-bit}
+use Rattle.reading.proofs.Words.{taken-word}
 use Rattle.input.specs.Answers.{low64}
 use Rattle.input.proofs.MappedReplies.{ask-out}
-use Rattle.input.proofs.ReadLoops.{Unread, begin, step, out, end, fits}
+use Rattle.input.proofs.ReadLoops.{bits-of-word}
 use Rattle.input.proofs.read_bits.Statement.{statement}
 use Rattle.input.proofs.read_bits.Tie as tie
 
-abbrev Inv-loop : tie.InvT-loop
-Inv-loop s n p₀ left₀ acc₀ p left acc = Unread s n p₀ left acc p
-
-abbrev μ-loop : tie.MeasureT-loop
-μ-loop s n p₀ left₀ acc₀ p left acc = left
-
-is-inside-requires : tie.Need-is-inside-requires Inv-loop μ-loop
-is-inside-requires c κs = search needs
-
-returns : tie.Need-returns Inv-loop μ-loop
+returns : tie.Need-returns
 unfolding low64
-returns c = sym (ask-out _ _ _ _ (cc (not-true (c .before .is-inside .result) (c .if1 .taken))))
+returns c = sym (ask-out _ _ _ _ (outside-bit _ _ (omega arith)))
 
-loop-holds : tie.Need-loop-holds Inv-loop μ-loop
-loop-holds c = begin _ _ _ (inside-in _ _ (cc (not-false (c .before .is-inside .result) (c .if1 .left))))
+sub-if4 : tie.Need-sub-if4
+sub-if4 c = search needs
 
-returns-2 : tie.Need-returns-2 Inv-loop μ-loop
-returns-2 c = out _ _ _ _ _ _ (c .before .before .loop .inv) (omega arith) (omega arith)
+word-at-requires : tie.Need-word-at-requires
+word-at-requires c κs = search needs
 
-sub-lesser : tie.Need-sub-lesser Inv-loop μ-loop
-sub-lesser c = search needs
+shl-w : tie.Need-shl-w
+shl-w c = search needs
 
-lesser-requires : tie.Need-lesser-requires Inv-loop μ-loop
-lesser-requires c κs = search needs
+sub-t15 : tie.Need-sub-t15
+sub-t15 c = search needs
 
-shl-acc : tie.Need-shl-acc Inv-loop μ-loop
-shl-acc c = search needs
+cast-t14 : tie.Need-cast-t14
+cast-t14 c = search needs
 
-shared-slice-read-chunk : tie.Need-shared-slice-read-chunk Inv-loop μ-loop
-shared-slice-read-chunk c = search needs
+shr-t16 : tie.Need-shr-t16
+shr-t16 c = search needs
 
-chunk-requires : tie.Need-chunk-requires Inv-loop μ-loop
-chunk-requires c κs = search needs
+later-requires : tie.Need-later-requires
+later-requires c κs = search needs
 
-add-acc : tie.Need-add-acc Inv-loop μ-loop
-add-acc c = record { fits = fits _ _ _ _ _ _ (c .before .before .before .before .before .loop .inv) _ (omega arith) (omega arith) (omega arith) (c .chunk .ensures) }
+returns-2 : tie.Need-returns-2
+returns-2 c = bits-of-word _ _ _ (omega arith) (omega arith) (taken-word (c .before .word-at .ensures)) _ (omega arith) (c .later .ensures)
 
-skip-requires : tie.Need-skip-requires Inv-loop μ-loop
-skip-requires c κs = search needs
+read-bits-by-bytes-requires : tie.Need-read-bits-by-bytes-requires
+read-bits-by-bytes-requires c κs = search needs
 
-sub-left : tie.Need-sub-left Inv-loop μ-loop
-sub-left c = search needs
-
-loop-less : tie.Need-loop-less Inv-loop μ-loop
-loop-less c = search needs
-
-loop-again : tie.Need-loop-again Inv-loop μ-loop
-loop-again c =
-    step _ _ _ _ _ _ (c .before .before .before .before .before .before .loop .inv) _ (omega arith) (omega arith) (omega arith) (c .before .chunk .ensures) (c .skip .ensures)
-
-returns-3 : tie.Need-returns-3 Inv-loop μ-loop
-returns-3 c = end _ _ _ _ _ _ (c .before .loop .inv) (omega arith)
+returns-3 : tie.Need-returns-3
+returns-3 c = search needs
 
 pub read-bits-spec : {M : Type 1} → statement M
 read-bits-spec =
     tie.close
     (tie.spec
-    Inv-loop
-    μ-loop
-    is-inside-requires
     returns
-    loop-holds
+    sub-if4
+    word-at-requires
+    shl-w
+    sub-t15
+    cast-t14
+    shr-t16
+    later-requires
     returns-2
-    sub-lesser
-    lesser-requires
-    shl-acc
-    shared-slice-read-chunk
-    chunk-requires
-    add-acc
-    skip-requires
-    sub-left
-    loop-less
-    loop-again
+    read-bits-by-bytes-requires
     returns-3)

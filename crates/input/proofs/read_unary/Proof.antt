@@ -1,78 +1,65 @@
--- `read_unary`: the zeros that are still to be read complete the count (Passed). Assumes nothing.
-use Prim.Native.Nat.{_*_, _-_}
+-- `read_unary`: a run that ends in the first word is the leading zeros of its bits from the place on. Assumes nothing.
 use native.Mathlib.Omega.{arith}
-use mathlib.Core.Path.{sym}
+use mathlib.Core.Path.{refl, sym}
 use borrow.Author.Needs.{needs}
-use borrow.Author.Tests.{not-true, not-false}
-use lib.ListN.{length}
-use Rattle.reading.specs.Places.{position}
-use Rattle.reading.proofs.ByteRuns.{inside-in}
+use Rattle.reading.proofs.ByteRuns.{outside-bit}
+use Rattle.reading.proofs.Words.{taken-word}
 use Rattle.input.specs.Answers.{countedZeros}
 use Rattle.input.proofs.MappedReplies.{ask-out}
-use Rattle.input.proofs.ReadLoops.{Passed, begin-zeros, step-zeros, out-zeros, end-zeros, less, below}
+use Rattle.input.proofs.ReadLoops.{unary-out, unary-of-word}
 use Rattle.input.proofs.read_unary.Statement.{statement}
 use Rattle.input.proofs.read_unary.Tie as tie
 
-abbrev Inv-loop : tie.InvT-loop
-Inv-loop s p₀ count₀ p count = Passed s p₀ count p
-
-abbrev μ-loop : tie.MeasureT-loop
-μ-loop s p₀ count₀ p count = 8 * length s - position p
-
-is-inside-requires : tie.Need-is-inside-requires Inv-loop μ-loop
-is-inside-requires c κs = search needs
-
-returns : tie.Need-returns Inv-loop μ-loop
+returns : tie.Need-returns
 unfolding countedZeros
-returns c = sym (ask-out _ _ _ _ (cc (not-true (c .before .is-inside .result) (c .if1 .taken))))
+returns c = sym (ask-out _ _ _ _ (outside-bit _ _ (omega arith)))
 
-loop-holds : tie.Need-loop-holds Inv-loop μ-loop
-loop-holds c = begin-zeros _ _ (inside-in _ _ (cc (not-false (c .before .is-inside .result) (c .if1 .left))))
+returns-2 : tie.Need-returns-2
+returns-2 c = unary-out _ _ (omega arith)
 
-returns-2 : tie.Need-returns-2 Inv-loop μ-loop
-returns-2 c = out-zeros _ _ _ _ (c .before .loop .inv) (omega arith)
+sub-if3 : tie.Need-sub-if3
+sub-if3 c = search needs
 
-shared-slice-read-chunk : tie.Need-shared-slice-read-chunk Inv-loop μ-loop
-shared-slice-read-chunk c = search needs
+word-at-requires : tie.Need-word-at-requires
+word-at-requires c κs = search needs
 
-chunk-requires : tie.Need-chunk-requires Inv-loop μ-loop
-chunk-requires c κs = search needs
+shl-q : tie.Need-shl-q
+shl-q c = search needs
 
-skip-requires : tie.Need-skip-requires Inv-loop μ-loop
-skip-requires c κs = search needs
+cast-t13 : tie.Need-cast-t13
+cast-t13 c = search needs
 
-returns-3 : tie.Need-returns-3 Inv-loop μ-loop
-returns-3 c =
-    end-zeros _ _ _ _ (c .before .before .before .before .before .loop .inv) _ _ (omega arith) (c .before .before .chunk .ensures) (c .before .skip .ensures)
-    (c .if3 .taken)
+cast-later : tie.Need-cast-later
+cast-later c = search needs
 
-one-more-requires : tie.Need-one-more-requires Inv-loop μ-loop
-one-more-requires c κs = below _ _ _ _ (c .before .before .before .before .before .loop .inv)
+add-later : tie.Need-add-later
+add-later c = search needs
 
-loop-less : tie.Need-loop-less Inv-loop μ-loop
-loop-less c =
-    less _ _ _ _ (c .before .before .before .before .before .before .loop .inv) _ _ (omega arith) (c .before .before .before .chunk .ensures)
-    (c .before .before .skip .ensures)
+later-requires : tie.Need-later-requires
+later-requires c κs = search needs
 
-loop-again : tie.Need-loop-again Inv-loop μ-loop
-loop-again c =
-    step-zeros _ _ _ _ (c .before .before .before .before .before .before .loop .inv) _ _ (omega arith) (c .before .before .before .chunk .ensures)
-    (c .before .before .skip .ensures) (c .before .if3 .left) (c .one-more .ensures)
+returns-3 : tie.Need-returns-3
+returns-3 c = unary-of-word _ _ _ (omega arith) (omega arith) (taken-word (c .before .before .word-at .ensures)) refl (c .before .if4 .taken) (c .later .ensures)
+
+read-long-unary-requires : tie.Need-read-long-unary-requires
+read-long-unary-requires c κs = search needs
+
+returns-4 : tie.Need-returns-4
+returns-4 c = search needs
 
 pub read-unary-spec : {M : Type 1} → statement M
 read-unary-spec =
     tie.close
     (tie.spec
-    Inv-loop
-    μ-loop
-    is-inside-requires
     returns
-    loop-holds
     returns-2
-    shared-slice-read-chunk
-    chunk-requires
-    skip-requires
+    sub-if3
+    word-at-requires
+    shl-q
+    cast-t13
+    cast-later
+    add-later
+    later-requires
     returns-3
-    one-more-requires
-    loop-less
-    loop-again)
+    read-long-unary-requires
+    returns-4)
