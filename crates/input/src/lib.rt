@@ -78,9 +78,11 @@ pub fn read_unary(s: &[u8], at: Place) -> Bits
         return Bits::Short;
     }
     if 8 <= s.len() - byte {
-        let q = u64::leading_zeros(word_at(s, byte) << bit);
+        let rest = word_at(s, byte) << bit;
+        let q = u64::leading_zeros(rest);
         if q < 64 {
-            return Bits::Value(q as u64, later(byte, bit, q as usize + 1));
+            let zeros = q as usize;
+            return Bits::Value(zeros as u64, later(byte, bit, zeros + 1));
         }
     }
     read_long_unary(s, byte, bit)
@@ -96,18 +98,22 @@ fn read_long_unary(s: &[u8], byte: usize, bit: usize) -> Bits
     let mut before = bit;
     let mut count: u64 = 0;
     while 8 <= s.len() - next {
-        let q = u64::leading_zeros(word_at(s, next) << before);
+        let rest = word_at(s, next) << before;
+        let q = u64::leading_zeros(rest);
         if q < 64 {
-            return Bits::Value(more(count, q as u64), later(next, before, q as usize + 1));
+            let zeros = q as usize;
+            return Bits::Value(more(count, zeros as u64), later(next, before, zeros + 1));
         }
         count = more(count, (64 - before) as u64);
         next += 8;
         before = 0;
     }
     while next < s.len() {
-        let q = u8::leading_zeros(s[next] << before);
+        let rest = s[next] << before;
+        let q = u8::leading_zeros(rest);
         if q < 8 {
-            return Bits::Value(more(count, q as u64), later(next, before, q as usize + 1));
+            let zeros = q as usize;
+            return Bits::Value(more(count, zeros as u64), later(next, before, zeros + 1));
         }
         count = more(count, (8 - before) as u64);
         next += 1;

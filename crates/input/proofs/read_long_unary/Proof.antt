@@ -31,17 +31,14 @@ sub-loop c = search needs
 word-at-requires : tie.Need-word-at-requires Inv-loop μ-loop Inv-loop2 μ-loop2
 word-at-requires c κs = search needs
 
-shl-q : tie.Need-shl-q Inv-loop μ-loop Inv-loop2 μ-loop2
-shl-q c = search needs
+shl-rest : tie.Need-shl-rest Inv-loop μ-loop Inv-loop2 μ-loop2
+shl-rest c = search needs
 
-cast-more : tie.Need-cast-more Inv-loop μ-loop Inv-loop2 μ-loop2
-cast-more c = search needs
+cast-zeros : tie.Need-cast-zeros Inv-loop μ-loop Inv-loop2 μ-loop2
+cast-zeros c = search needs
 
 more-requires : tie.Need-more-requires Inv-loop μ-loop Inv-loop2 μ-loop2
 more-requires c κs = (below _ _ _ _ (c .before .before .before .loop .inv), omega arith)
-
-cast-later : tie.Need-cast-later Inv-loop μ-loop Inv-loop2 μ-loop2
-cast-later c = search needs
 
 add-later : tie.Need-add-later Inv-loop μ-loop Inv-loop2 μ-loop2
 add-later c = search needs
@@ -74,23 +71,20 @@ loop-again c =
 loop2-holds : tie.Need-loop2-holds Inv-loop μ-loop Inv-loop2 μ-loop2
 loop2-holds c = c .before .loop .inv
 
-shared-slice-read-q : tie.Need-shared-slice-read-q Inv-loop μ-loop Inv-loop2 μ-loop2
-shared-slice-read-q c = search needs
+shared-slice-read-rest : tie.Need-shared-slice-read-rest Inv-loop μ-loop Inv-loop2 μ-loop2
+shared-slice-read-rest c = search needs
 
-cast-q : tie.Need-cast-q Inv-loop μ-loop Inv-loop2 μ-loop2
-cast-q c = search needs
+cast-rest : tie.Need-cast-rest Inv-loop μ-loop Inv-loop2 μ-loop2
+cast-rest c = search needs
 
-shl-q-2 : tie.Need-shl-q-2 Inv-loop μ-loop Inv-loop2 μ-loop2
-shl-q-2 c = search needs
+shl-rest-2 : tie.Need-shl-rest-2 Inv-loop μ-loop Inv-loop2 μ-loop2
+shl-rest-2 c = search needs
 
-cast-more-2 : tie.Need-cast-more-2 Inv-loop μ-loop Inv-loop2 μ-loop2
-cast-more-2 c = search needs
+cast-zeros-2 : tie.Need-cast-zeros-2 Inv-loop μ-loop Inv-loop2 μ-loop2
+cast-zeros-2 c = search needs
 
 more-requires-3 : tie.Need-more-requires-3 Inv-loop μ-loop Inv-loop2 μ-loop2
 more-requires-3 c κs = (below _ _ _ _ (c .before .before .before .loop2 .inv), omega arith)
-
-cast-later-2 : tie.Need-cast-later-2 Inv-loop μ-loop Inv-loop2 μ-loop2
-cast-later-2 c = search needs
 
 add-later-2 : tie.Need-add-later-2 Inv-loop μ-loop Inv-loop2 μ-loop2
 add-later-2 c = search needs
@@ -134,10 +128,9 @@ read-long-unary-spec =
     loop-holds
     sub-loop
     word-at-requires
-    shl-q
-    cast-more
+    shl-rest
+    cast-zeros
     more-requires
-    cast-later
     add-later
     later-requires
     returns
@@ -147,12 +140,11 @@ read-long-unary-spec =
     loop-less
     loop-again
     loop2-holds
-    shared-slice-read-q
-    cast-q
-    shl-q-2
-    cast-more-2
+    shared-slice-read-rest
+    cast-rest
+    shl-rest-2
+    cast-zeros-2
     more-requires-3
-    cast-later-2
     add-later-2
     later-requires-2
     returns-2

@@ -23,14 +23,11 @@ sub-if3 c = search needs
 word-at-requires : tie.Need-word-at-requires
 word-at-requires c κs = search needs
 
-shl-q : tie.Need-shl-q
-shl-q c = search needs
+shl-rest : tie.Need-shl-rest
+shl-rest c = search needs
 
-cast-t13 : tie.Need-cast-t13
-cast-t13 c = search needs
-
-cast-later : tie.Need-cast-later
-cast-later c = search needs
+cast-zeros : tie.Need-cast-zeros
+cast-zeros c = search needs
 
 add-later : tie.Need-add-later
 add-later c = search needs
@@ -55,9 +52,8 @@ read-unary-spec =
     returns-2
     sub-if3
     word-at-requires
-    shl-q
-    cast-t13
-    cast-later
+    shl-rest
+    cast-zeros
     add-later
     later-requires
     returns-3
