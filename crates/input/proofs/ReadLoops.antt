@@ -1,4 +1,4 @@
--- Reading bits and counting zeros: in one word, and turn by turn, where each turn takes bits of one byte or one word. Assumes nothing.
+-- Reading bits and counting zeros, in the first word and turn by turn. Assumes nothing.
 use Prim.Native.Nat.{ℕ, suc, _+_, _*_, _-_, _/_, _%_, _^_, _≤_, _<_}
 use native.Mathlib.Nat.{add-zero, zero-add, zero-mul, mod-lt, mod-eq-of-lt, lt-of-le-of-lt}
 use native.Mathlib.Omega.{arith}
@@ -12,7 +12,7 @@ use Rattle.reading.specs.declared.Place.{Place}
 use Rattle.reading.specs.Readers.{bits, zeros, nextBits, nextZeros, reply, bitsFrom}
 use Rattle.reading.specs.Places.{position, placeOf, inside, gotAt, shortAt, runAt}
 use Rattle.reading.proofs.Bits.{bitsReply, zerosReply, bits-out, zeros-out}
-use Rattle.reading.proofs.Words.{WordAt, byte-at, middle, middle-shifted, bits-pass, zeros-pass, one-ends, leading-one, leading-none}
+use Rattle.reading.proofs.Words.{WordAt, byte-at, word-middle, middle-shifted, bits-pass, zeros-pass, one-ends, leading-one, leading-none}
 use Rattle.reading.proofs.ByteRuns.{In, inside-in, place-position, position-place}
 use Rattle.input.specs.Answers.{low64, count, countedZeros}
 use Rattle.input.proofs.MappedReplies.{mapReply, mapReply-found, mapReply-cut, ask-in, ask-out}
@@ -73,7 +73,7 @@ module _ (s : List ℕ) (n : ℕ) (p₀ : Place) (left acc : ℕ) (p : Place) (i
           inv .same
           ∙ ap (mapReply (λ v. v % 2 ^ 64))
           (ap (λ k. bitsReply s k (inv .all) (position p)) (let e : left ≡ m + (left - m) = omega arith in e)
-          ∙ bits-pass m (left - m) (inv .all) (middle (p .bit) m b (byte-at s (p .byte) l))
+          ∙ bits-pass m (left - m) (inv .all) (word-middle (p .bit) m b (byte-at s (p .byte) l))
           ∙ ap₂ (bitsReply s (left - m)) (ap (λ y. inv .all * 2 ^ m + y) (sym ex)) (sym (later-position p m eq)));
     }
 
@@ -98,12 +98,12 @@ module _ (s : List ℕ) (p₀ : Place) (c : ℕ) (p : Place) (inv : Passed s p�
   -- a word of n bits, from the place's byte on; q is the number of its leading zeros, without the bits before the place
   module _ {n w q : ℕ} (l : p .bit ≤ n) (h : WordAt s (8 * p .byte) n w) (e : q ≡ leadingZeros n ((w * 2 ^ p .bit) % 2 ^ n)) where
     -- the run ends in it
-    pub end-zeros : {r : ℕ} {p′ : Place} → q < n → r ≡ count (c + q) → p′ ≡ placeOf (position p + (q + 1)) → gotAt r p′ ≡ countedZeros (runAt zeros s p₀)
-    end-zeros {r} {p′} k er ep =
+    pub end-zeros : q < n → gotAt (count (c + q)) (placeOf (position p + (q + 1))) ≡ countedZeros (runAt zeros s p₀)
+    end-zeros k =
         let d : position p + suc q ≡ position p + (q + 1) = omega arith in
         sym
         (inv .same ∙ ap (mapReply count) (one-ends q (inv .zs) (leading-one l h e k)) ∙ mapReply-found count (inv .zs + q) (position p + suc q)
-        ∙ ap₂ gotAt (sym (er ∙ rw (inv .counts) (count-more (inv .zs) q))) (ap placeOf d ∙ sym ep))
+        ∙ ap₂ gotAt (sym (rw (inv .counts) (count-more (inv .zs) q))) (ap placeOf d))
 
     -- the run goes through it
     pub step-zeros : {r : ℕ} {p′ : Place} → n ≤ q → 8 * p .byte + n ≤ 8 * length s → r ≡ count (c + (n - p .bit)) → p′ .bit ≡ 0 → position p′ ≡ 8 * p .byte + n
@@ -133,10 +133,9 @@ module _ (s : List ℕ) (at : Place) (w : ℕ) (b : at .bit < 8) (l : at .byte +
   here : In s at
   here = record { bit = b; end = omega arith }
 
-  pub unary-of-word : {q : ℕ} {p : Place} → q ≡ leadingZeros 64 ((w * 2 ^ at .bit) % 2 ^ 64) → q < 64 → p ≡ placeOf (position at + (q + 1))
-      → gotAt q p ≡ countedZeros (runAt zeros s at)
-  unary-of-word {q} e k ep =
-      end-zeros s at 0 at (begin-zeros s at here) (omega arith) h e k (sym (ap count (zero-add q) ∙ count-few (omega arith))) ep
+  pub unary-of-word : {q : ℕ} → q ≡ leadingZeros 64 ((w * 2 ^ at .bit) % 2 ^ 64) → q < 64
+      → gotAt (count (0 + q)) (placeOf (position at + (q + 1))) ≡ countedZeros (runAt zeros s at)
+  unary-of-word e k = end-zeros s at 0 at (begin-zeros s at here) (omega arith) h e k
 
   pub bits-of-word : (n : ℕ) {p : Place} → n ≤ 56 → p ≡ placeOf (position at + n) → gotAt ((w * 2 ^ at .bit) % 2 ^ 64 / 2 / 2 ^ (63 - n)) p ≡ low64 (runAt (bits n) s at)
   unfolding low64 bits reply bitsFrom
@@ -151,5 +150,5 @@ module _ (s : List ℕ) (at : Place) (w : ℕ) (b : at .bit < 8) (l : at .byte +
       sym
       (ask-in (λ y. y % 2 ^ 64) (nextBits n) here
       ∙ ap (mapReply (λ y. y % 2 ^ 64))
-      (ap (λ m. bitsReply s m 0 (position at)) (sym (add-zero n)) ∙ bits-pass n 0 0 (middle a n (omega arith) h))
+      (ap (λ m. bitsReply s m 0 (position at)) (sym (add-zero n)) ∙ bits-pass n 0 0 (word-middle a n (omega arith) h))
       ∙ mapReply-found (λ y. y % 2 ^ 64) (0 * 2 ^ n + x) (position at + n) ∙ ap₂ gotAt (ap (λ y. y % 2 ^ 64) g ∙ mod-eq-of-lt small) (sym ep))

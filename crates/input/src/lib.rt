@@ -7,7 +7,7 @@ ghost use mathlib.Core.Path.{_≡_};
 ghost use lib.ListN.{length, take, drop};
 ghost use Prim.Native.Nat.{_+_, _-_, _*_, _/_, _%_, _^_, _≤_, _<_};
 ghost use Rattle.reading.specs.Readers.{bits, zeros};
-ghost use Rattle.reading.specs.Places.{placeOf, runAt};
+ghost use Rattle.reading.specs.Places.{placeOf, gotAt, runAt};
 ghost use Rattle.reading.specs.Bytes.{bitsOfBytes};
 ghost use Rattle.reading.specs.NumbersAsBits.{bitsOf};
 ghost use Rattle.input.specs.Answers.{bitsAt, low64, count as countOf, countedZeros};
@@ -18,8 +18,8 @@ pub enum Bits {
     Short,
 }
 
-// The next n bits as a number; of more than 64 bits, the last 64. Where eight bytes are left, up to 56 bits come from the
-// word that they make: the first shift drops the bits before the place, the others the bits after the number.
+// The next n bits as a number; of more than 64 bits, the last 64. Where eight bytes are left, up to 56 bits come from
+// the word that they make: the first shift drops the bits before the place, the others the bits after the number.
 pub fn read_bits(s: &[u8], at: Place, n: u32) -> Bits
     ensures { λ r. ⌜ bitsAt r ≡ low64 (runAt (bits n) (now (s .entry)) at) ⌝ }
 {
@@ -64,8 +64,8 @@ fn read_bits_by_bytes(s: &[u8], at: Place, n: u32) -> Bits
 }
 
 // The number of zero bits before the next 1 bit, which is read too. From 2 ^ 32 zeros on it is the low 32 bits of their
-// number, with bit 32 set: a Rice quotient needs only the low bits, the wasted bits only that there are too many. Nearly
-// every run ends in the first eight bytes: it is the leading zeros of their word, without the bits before the place.
+// number, with bit 32 set: a Rice quotient needs only the low bits, the wasted bits only that there are too many.
+// Nearly every run ends in the first eight bytes: it is the leading zeros of the rest of their word, from the place on.
 pub fn read_unary(s: &[u8], at: Place) -> Bits
     ensures { λ r. ⌜ bitsAt r ≡ countedZeros (runAt zeros (now (s .entry)) at) ⌝ }
 {
@@ -81,8 +81,7 @@ pub fn read_unary(s: &[u8], at: Place) -> Bits
         let rest = word_at(s, byte) << bit;
         let q = u64::leading_zeros(rest);
         if q < 64 {
-            let zeros = q as usize;
-            return Bits::Value(zeros as u64, later(byte, bit, zeros + 1));
+            return ended(0, byte, bit, q);
         }
     }
     read_long_unary(s, byte, bit)
@@ -101,8 +100,7 @@ fn read_long_unary(s: &[u8], byte: usize, bit: usize) -> Bits
         let rest = word_at(s, next) << before;
         let q = u64::leading_zeros(rest);
         if q < 64 {
-            let zeros = q as usize;
-            return Bits::Value(more(count, zeros as u64), later(next, before, zeros + 1));
+            return ended(count, next, before, q);
         }
         count = more(count, (64 - before) as u64);
         next += 8;
@@ -112,8 +110,7 @@ fn read_long_unary(s: &[u8], byte: usize, bit: usize) -> Bits
         let rest = s[next] << before;
         let q = u8::leading_zeros(rest);
         if q < 8 {
-            let zeros = q as usize;
-            return Bits::Value(more(count, zeros as u64), later(next, before, zeros + 1));
+            return ended(count, next, before, q);
         }
         count = more(count, (8 - before) as u64);
         next += 1;
@@ -122,8 +119,16 @@ fn read_long_unary(s: &[u8], byte: usize, bit: usize) -> Bits
     Bits::Short
 }
 
-// The count after m more zeros. From 2 ^ 33 on it goes back to 2 ^ 32: it does not overflow, and bit 32, which says that
-// there were too many, stays set.
+// The answer where q zeros, and the 1 bit that ends the run, come after a bit of a byte.
+fn ended(count: u64, byte: usize, bit: usize, q: u32) -> Bits
+    requires { ⌜ (count < 2 ^ 33) × (byte < 2 ^ 63) × (bit < 8) × (q < 64) ⌝ }
+    ensures { λ r. ⌜ bitsAt r ≡ gotAt (countOf (count + q)) (placeOf (8 * byte + bit + (q + 1))) ⌝ }
+{
+    Bits::Value(more(count, q as u64), later(byte, bit, q as usize + 1))
+}
+
+// The count after m more zeros. From 2 ^ 33 on it goes back to 2 ^ 32: it does not overflow, and bit 32, which says
+// that there were too many, stays set.
 fn more(c: u64, m: u64) -> u64
     requires { ⌜ (c < 2 ^ 33) × (m ≤ 64) ⌝ }
     ensures { λ r. ⌜ r ≡ countOf (c + m) ⌝ }

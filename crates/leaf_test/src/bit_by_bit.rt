@@ -5,7 +5,7 @@ use reading::is_inside;
 use std::num::wrapping_add_u64;
 
 // The next n bits as a number; of more than 64 bits, the last 64.
-pub fn bits(s: &[u8], at: Place, n: u32) -> Bits {
+pub fn bits_one_by_one(s: &[u8], at: Place, n: u32) -> Bits {
     if 8 <= at.bit || !is_inside(s, at) {
         return Bits::Short;
     }
@@ -27,7 +27,7 @@ pub fn bits(s: &[u8], at: Place, n: u32) -> Bits {
 }
 
 // The number of zero bits before the next 1 bit, which is read too.
-pub fn unary(s: &[u8], at: Place) -> Bits {
+pub fn unary_one_by_one(s: &[u8], at: Place) -> Bits {
     if 8 <= at.bit || !is_inside(s, at) {
         return Bits::Short;
     }

@@ -1,7 +1,8 @@
 // The readers of words. First `read_unary` on runs of zeros of each length, from each bit of a byte. The bits before
-// the place are ones, and so are those after the 1 bit that ends the run. Each run is read three times: with bytes after
-// it, at the end of the input, and without the byte of its 1 bit, where the input is short. A line has the lengths and
-// how many runs were read right. Then both readers against readers that take one bit a turn, on a million seeded inputs.
+// the place are ones, and so are those after the 1 bit that ends the run. Each run is read three times: with bytes
+// after it, at the end of the input, and without the byte of its 1 bit, where the input is short. A line has the
+// lengths, and how many runs were read right. Then both readers against readers that take one bit a turn, on a million
+// seeded inputs.
 use crate::bit_by_bit;
 use crate::show::equals;
 use crate::show::mark;
@@ -130,8 +131,8 @@ fn is_long(r: Bits) -> bool {
 fn compared(s: &[u8], at: Place, n: u32, t: Tally) -> Tally {
     let zeros = read_unary(s, at);
     let number = read_bits(s, at, n);
-    let same = is_same(zeros, bit_by_bit::unary(s, at))
-        && is_same(number, bit_by_bit::bits(s, at, n));
+    let same = is_same(zeros, bit_by_bit::unary_one_by_one(s, at))
+        && is_same(number, bit_by_bit::bits_one_by_one(s, at, n));
     Tally {
         differ: wrapping_add_u64(t.differ, one_if(!same)),
         ended: wrapping_add_u64(t.ended, one_if(!is_short(zeros))),

@@ -1,4 +1,4 @@
--- Words that hold bits of the input: how they join and split, their leading zeros, and what each question gets from one. Assumes nothing.
+-- Words that hold bits of the input: their parts, their leading zeros, and what questions get. Assumes nothing.
 use Prim.Native.Nat.{ℕ, zero, suc, _+_, _*_, _-_, _/_, _%_, _^_, _≤_, _<_}
 use native.Mathlib.Nat.{add-zero, add-comm, add-assoc, mul-assoc, mul-le-mul-right, mod-lt, pow-suc, pow-succ', zero-mul, eq-zero-or-pos}
 use native.Mathlib.Omega.{arith}
@@ -54,8 +54,8 @@ module _ {s : List ℕ} {i : ℕ} where
   pub word-as : {j m n v w : ℕ} → i ≡ j → m ≡ n → v ≡ w → WordAt s i m v → WordAt s j n w
   word-as {j} {m} {n} {v} {w} e f g h = subst (λ x. WordAt s j n x) g (subst (λ x. WordAt s j x v) f (subst (λ k. WordAt s k m v) e h))
 
-  pub joined : (m n : ℕ) {v w : ℕ} → WordAt s i m v → WordAt s (i + m) n w → w < 2 ^ n → WordAt s i (m + n) (v * 2 ^ n + w)
-  joined m n {v} {w} a b l = record {
+  pub words-joined : (m n : ℕ) {v w : ℕ} → WordAt s i m v → WordAt s (i + m) n w → w < 2 ^ n → WordAt s i (m + n) (v * 2 ^ n + w)
+  words-joined m n {v} {w} a b l = record {
     is =
         a .is ∙ ap (λ t. bitsOf m v ++ t) (b .is) ∙ sym (append-assoc (bitsOf m v) (bitsOf n w) (drop (i + m + n) (bitsOfBytes s)))
         ∙ ap₂ (λ x k. x ++ drop k (bitsOfBytes s))
@@ -77,19 +77,19 @@ module _ {s : List ℕ} {i : ℕ} where
         ∙ drop-at (bitsOf m (w / 2 ^ n)) (bitsOf n w ++ drop (i + (m + n)) (bitsOfBytes s)) m (length-bitsOf m (w / 2 ^ n))
 
     -- its first m bits
-    pub front : WordAt s i m (w / 2 ^ n)
-    front = record { is = split ∙ ap (λ t. bitsOf m (w / 2 ^ n) ++ t) (sym later) }
+    pub word-front : WordAt s i m (w / 2 ^ n)
+    word-front = record { is = split ∙ ap (λ t. bitsOf m (w / 2 ^ n) ++ t) (sym later) }
 
     -- the n bits after them
-    pub after : WordAt s (i + m) n w
-    after = record { is = later ∙ ap (λ k. bitsOf n w ++ drop k (bitsOfBytes s)) (sym (add-assoc i m n)) }
+    pub word-after : WordAt s (i + m) n w
+    word-after = record { is = later ∙ ap (λ k. bitsOf n w ++ drop k (bitsOfBytes s)) (sym (add-assoc i m n)) }
 
 -- the middle piece: k bits after the first a of a word of n bits
-pub middle : {s : List ℕ} {i n w : ℕ} (a k : ℕ) → a + k ≤ n → WordAt s i n w → WordAt s (i + a) k (w / 2 ^ (n - (a + k)))
-middle {s} {i} {n} {w} a k l h =
+pub word-middle : {s : List ℕ} {i n w : ℕ} (a k : ℕ) → a + k ≤ n → WordAt s i n w → WordAt s (i + a) k (w / 2 ^ (n - (a + k)))
+word-middle {s} {i} {n} {w} a k l h =
     let b : ℕ = n - (a + k) in
     let e : n ≡ a + (k + b) = omega arith in
-    front k b (after a (k + b) (word-as refl e refl h))
+    word-front k b (word-after a (k + b) (word-as refl e refl h))
 
 -- a machine finds it by two shifts: the first drops the a bits before it
 pub middle-shifted : (n a k w : ℕ) → a + k ≤ n → (w * 2 ^ a) % 2 ^ n / 2 ^ (n - k) ≡ w / 2 ^ (n - (a + k)) % 2 ^ k
@@ -159,7 +159,7 @@ one-left j w a b = ap (λ x. x / 2 ^ j) (let e : w ≡ 1 * 2 ^ j + (w - 2 ^ j) =
 module _ {s : List ℕ} {i n a w q : ℕ} (l : a ≤ n) (h : WordAt s i n w) (e : q ≡ leadingZeros n ((w * 2 ^ a) % 2 ^ n)) where
   -- the bits from the place on
   rest : WordAt s (i + a) (n - a) (w % 2 ^ (n - a))
-  rest = let f : n ≡ a + (n - a) = omega arith in let k = after a (n - a) (word-as refl f refl h) in
+  rest = let f : n ≡ a + (n - a) = omega arith in let k = word-after a (n - a) (word-as refl f refl h) in
       record { is = k .is ∙ ap (λ x. x ++ drop (i + a + (n - a)) (bitsOfBytes s)) (sym (bitsOf-mod (n - a) w)) }
 
   count-is : q ≡ leadingZeros (n - a + a) (w % 2 ^ (n - a) * 2 ^ a)
@@ -182,7 +182,7 @@ module _ {s : List ℕ} {i n a w q : ℕ} (l : a ≤ n) (h : WordAt s i n w) (e 
       let t = leading-top (n - a) (w % 2 ^ (n - a)) (c .0) (mod-lt w (pow-pos (n - a))) in
       let j : ℕ = t .0 in
       let f : n - a ≡ suc q + j = omega (arith, t .1, c .1) in
-      word-as refl refl (one-left j (w % 2 ^ (n - a)) (t .2) (t .3)) (front (suc q) j (word-as refl f refl rest)))
+      word-as refl refl (one-left j (w % 2 ^ (n - a)) (t .2) (t .3)) (word-front (suc q) j (word-as refl f refl rest)))
       cases
 
   -- n of them: no one in the word
@@ -211,5 +211,5 @@ eight-bytes s byte {w} l below e =
   where
     one-more : (n k : ℕ) {v : ℕ} → n ≡ 8 * k → k < 8 → WordAt s (8 * byte) n v → WordAt s (8 * byte) (n + 8) (v * 2 ^ 8 + getD s (byte + k) 0)
     one-more n k f h v =
-        joined n 8 v (word-as (let d : 8 * (byte + k) ≡ 8 * byte + n = omega arith in d) refl refl (byte-at s (byte + k) (omega arith)))
+        words-joined n 8 v (word-as (let d : 8 * (byte + k) ≡ 8 * byte + n = omega arith in d) refl refl (byte-at s (byte + k) (omega arith)))
         (below (byte + k) (omega arith))

@@ -1,7 +1,7 @@
--- `read_long_unary`: the zeros that are still to be read complete the count (Passed), by words and then by bytes. Assumes nothing.
+-- `read_long_unary`: the zeros that are still to be read complete the count (Passed). Assumes nothing.
 use Prim.Native.Nat.{_-_}
 use native.Mathlib.Omega.{arith}
-use mathlib.Core.Path.{refl}
+use mathlib.Core.Path.{refl, _∙_}
 use borrow.Author.Needs.{needs}
 use lib.ListN.{length}
 use Rattle.reading.specs.declared.Place.{Place}
@@ -34,28 +34,19 @@ word-at-requires c κs = search needs
 shl-rest : tie.Need-shl-rest Inv-loop μ-loop Inv-loop2 μ-loop2
 shl-rest c = search needs
 
-cast-zeros : tie.Need-cast-zeros Inv-loop μ-loop Inv-loop2 μ-loop2
-cast-zeros c = search needs
-
-more-requires : tie.Need-more-requires Inv-loop μ-loop Inv-loop2 μ-loop2
-more-requires c κs = (below _ _ _ _ (c .before .before .before .loop .inv), omega arith)
-
-add-later : tie.Need-add-later Inv-loop μ-loop Inv-loop2 μ-loop2
-add-later c = search needs
-
-later-requires : tie.Need-later-requires Inv-loop μ-loop Inv-loop2 μ-loop2
-later-requires c κs = search needs
+ended-requires : tie.Need-ended-requires Inv-loop μ-loop Inv-loop2 μ-loop2
+ended-requires c κs = (below _ _ _ _ (c .before .before .before .loop .inv), omega arith, omega arith, omega arith)
 
 returns : tie.Need-returns Inv-loop μ-loop Inv-loop2 μ-loop2
 returns c =
-    end-zeros _ _ _ _ (c .before .before .before .before .before .loop .inv) (omega arith) (taken-word (c .before .before .before .word-at .ensures)) refl
-    (c .before .before .if1 .taken) (c .before .more .ensures) (c .later .ensures)
+    c .ended .ensures
+    ∙ end-zeros _ _ _ _ (c .before .before .before .before .loop .inv) (omega arith) (taken-word (c .before .before .word-at .ensures)) refl (c .before .if1 .taken)
 
 sub-more : tie.Need-sub-more Inv-loop μ-loop Inv-loop2 μ-loop2
 sub-more c = search needs
 
-more-requires-2 : tie.Need-more-requires-2 Inv-loop μ-loop Inv-loop2 μ-loop2
-more-requires-2 c κs = (below _ _ _ _ (c .before .before .before .loop .inv), omega arith)
+more-requires : tie.Need-more-requires Inv-loop μ-loop Inv-loop2 μ-loop2
+more-requires c κs = (below _ _ _ _ (c .before .before .before .loop .inv), omega arith)
 
 add-next : tie.Need-add-next Inv-loop μ-loop Inv-loop2 μ-loop2
 add-next c = search needs
@@ -66,7 +57,7 @@ loop-less c = search needs
 loop-again : tie.Need-loop-again Inv-loop μ-loop Inv-loop2 μ-loop2
 loop-again c =
     step-zeros _ _ _ _ (c .before .before .before .before .loop .inv) (omega arith) (taken-word (c .before .before .word-at .ensures)) refl
-    (c .before .if1 .left) (omega arith) (c .more2 .ensures) refl (omega arith)
+    (c .before .if1 .left) (omega arith) (c .more .ensures) refl (omega arith)
 
 loop2-holds : tie.Need-loop2-holds Inv-loop μ-loop Inv-loop2 μ-loop2
 loop2-holds c = c .before .loop .inv
@@ -80,28 +71,19 @@ cast-rest c = search needs
 shl-rest-2 : tie.Need-shl-rest-2 Inv-loop μ-loop Inv-loop2 μ-loop2
 shl-rest-2 c = search needs
 
-cast-zeros-2 : tie.Need-cast-zeros-2 Inv-loop μ-loop Inv-loop2 μ-loop2
-cast-zeros-2 c = search needs
-
-more-requires-3 : tie.Need-more-requires-3 Inv-loop μ-loop Inv-loop2 μ-loop2
-more-requires-3 c κs = (below _ _ _ _ (c .before .before .before .loop2 .inv), omega arith)
-
-add-later-2 : tie.Need-add-later-2 Inv-loop μ-loop Inv-loop2 μ-loop2
-add-later-2 c = search needs
-
-later-requires-2 : tie.Need-later-requires-2 Inv-loop μ-loop Inv-loop2 μ-loop2
-later-requires-2 c κs = search needs
+ended-requires-2 : tie.Need-ended-requires-2 Inv-loop μ-loop Inv-loop2 μ-loop2
+ended-requires-2 c κs = (below _ _ _ _ (c .before .before .before .loop2 .inv), omega arith, omega arith, omega arith)
 
 returns-2 : tie.Need-returns-2 Inv-loop μ-loop Inv-loop2 μ-loop2
 returns-2 c =
-    end-zeros _ _ _ _ (c .before .before .before .before .before .loop2 .inv) (omega arith) (byte-at _ _ (omega arith)) refl
-    (c .before .before .if2 .taken) (c .before .more3 .ensures) (c .later2 .ensures)
+    c .ended2 .ensures
+    ∙ end-zeros _ _ _ _ (c .before .before .before .before .loop2 .inv) (omega arith) (byte-at _ _ (omega arith)) refl (c .before .if2 .taken)
 
 sub-more-2 : tie.Need-sub-more-2 Inv-loop μ-loop Inv-loop2 μ-loop2
 sub-more-2 c = search needs
 
-more-requires-4 : tie.Need-more-requires-4 Inv-loop μ-loop Inv-loop2 μ-loop2
-more-requires-4 c κs = (below _ _ _ _ (c .before .before .before .loop2 .inv), omega arith)
+more-requires-2 : tie.Need-more-requires-2 Inv-loop μ-loop Inv-loop2 μ-loop2
+more-requires-2 c κs = (below _ _ _ _ (c .before .before .before .loop2 .inv), omega arith)
 
 add-next-2 : tie.Need-add-next-2 Inv-loop μ-loop Inv-loop2 μ-loop2
 add-next-2 c = search needs
@@ -112,7 +94,7 @@ loop2-less c = search needs
 loop2-again : tie.Need-loop2-again Inv-loop μ-loop Inv-loop2 μ-loop2
 loop2-again c =
     step-zeros _ _ _ _ (c .before .before .before .before .loop2 .inv) (omega arith) (byte-at _ _ (omega arith)) refl
-    (c .before .if2 .left) (omega arith) (c .more4 .ensures) refl (omega arith)
+    (c .before .if2 .left) (omega arith) (c .more2 .ensures) refl (omega arith)
 
 returns-3 : tie.Need-returns-3 Inv-loop μ-loop Inv-loop2 μ-loop2
 returns-3 c = out-zeros _ _ _ _ (c .before .loop2 .inv) (omega arith)
@@ -129,13 +111,10 @@ read-long-unary-spec =
     sub-loop
     word-at-requires
     shl-rest
-    cast-zeros
-    more-requires
-    add-later
-    later-requires
+    ended-requires
     returns
     sub-more
-    more-requires-2
+    more-requires
     add-next
     loop-less
     loop-again
@@ -143,13 +122,10 @@ read-long-unary-spec =
     shared-slice-read-rest
     cast-rest
     shl-rest-2
-    cast-zeros-2
-    more-requires-3
-    add-later-2
-    later-requires-2
+    ended-requires-2
     returns-2
     sub-more-2
-    more-requires-4
+    more-requires-2
     add-next-2
     loop2-less
     loop2-again

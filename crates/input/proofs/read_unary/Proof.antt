@@ -1,6 +1,6 @@
 -- `read_unary`: a run that ends in the first word is the leading zeros of its bits from the place on. Assumes nothing.
 use native.Mathlib.Omega.{arith}
-use mathlib.Core.Path.{refl, sym}
+use mathlib.Core.Path.{refl, sym, _∙_}
 use borrow.Author.Needs.{needs}
 use Rattle.reading.proofs.ByteRuns.{outside-bit}
 use Rattle.reading.proofs.Words.{taken-word}
@@ -26,17 +26,11 @@ word-at-requires c κs = search needs
 shl-rest : tie.Need-shl-rest
 shl-rest c = search needs
 
-cast-zeros : tie.Need-cast-zeros
-cast-zeros c = search needs
-
-add-later : tie.Need-add-later
-add-later c = search needs
-
-later-requires : tie.Need-later-requires
-later-requires c κs = search needs
+ended-requires : tie.Need-ended-requires
+ended-requires c κs = search needs
 
 returns-3 : tie.Need-returns-3
-returns-3 c = unary-of-word _ _ _ (omega arith) (omega arith) (taken-word (c .before .before .word-at .ensures)) refl (c .before .if4 .taken) (c .later .ensures)
+returns-3 c = c .ended .ensures ∙ unary-of-word _ _ _ (omega arith) (omega arith) (taken-word (c .before .before .word-at .ensures)) refl (c .before .if4 .taken)
 
 read-long-unary-requires : tie.Need-read-long-unary-requires
 read-long-unary-requires c κs = search needs
@@ -53,9 +47,7 @@ read-unary-spec =
     sub-if3
     word-at-requires
     shl-rest
-    cast-zeros
-    add-later
-    later-requires
+    ended-requires
     returns-3
     read-long-unary-requires
     returns-4)

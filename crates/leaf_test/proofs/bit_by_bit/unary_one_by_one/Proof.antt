@@ -1,9 +1,9 @@
--- `unary`: one bit a turn. Assumes nothing.
+-- `unary_one_by_one`: one bit a turn. Assumes nothing.
 use Prim.Native.Nat.{_<_, _+_, _*_, _-_}
 use lib.ListN.{length}
 use borrow.Author.Needs.{needs}
-use Rattle.leaf_test.proofs.bit_by_bit.unary.Statement.{statement}
-use Rattle.leaf_test.proofs.bit_by_bit.unary.Tie as tie
+use Rattle.leaf_test.proofs.bit_by_bit.unary_one_by_one.Statement.{statement}
+use Rattle.leaf_test.proofs.bit_by_bit.unary_one_by_one.Tie as tie
 
 abbrev Inv-loop : tie.InvT-loop
 Inv-loop s byte₀ bit₀ zeros₀ byte bit zeros = bit < 8
@@ -53,8 +53,8 @@ loop-less c = search needs
 loop-again : tie.Need-loop-again Inv-loop μ-loop
 loop-again c = search needs
 
-pub unary-spec : {M : Type 1} → statement M
-unary-spec =
+pub unary-one-by-one-spec : {M : Type 1} → statement M
+unary-one-by-one-spec =
     tie.close
     (tie.spec
     Inv-loop

@@ -1,8 +1,8 @@
--- `bits`: one bit a turn. Assumes nothing.
+-- `bits_one_by_one`: one bit a turn. Assumes nothing.
 use Prim.Native.Nat.{_<_}
 use borrow.Author.Needs.{needs}
-use Rattle.leaf_test.proofs.bit_by_bit.bits.Statement.{statement}
-use Rattle.leaf_test.proofs.bit_by_bit.bits.Tie as tie
+use Rattle.leaf_test.proofs.bit_by_bit.bits_one_by_one.Statement.{statement}
+use Rattle.leaf_test.proofs.bit_by_bit.bits_one_by_one.Tie as tie
 
 abbrev Inv-loop : tie.InvT-loop
 Inv-loop s n byte₀ bit₀ left₀ acc₀ byte bit left acc = bit < 8
@@ -55,8 +55,8 @@ loop-again c = search needs
 returns-3 : tie.Need-returns-3 Inv-loop μ-loop
 returns-3 c = search needs
 
-pub bits-spec : {M : Type 1} → statement M
-bits-spec =
+pub bits-one-by-one-spec : {M : Type 1} → statement M
+bits-one-by-one-spec =
     tie.close
     (tie.spec
     Inv-loop
