@@ -56,6 +56,7 @@ else
     echo "|---|---|---|---|"
     for length in 5 10 20 40; do count -5 "$length"; done
     count -8 5
+    count -0 5
 fi
 echo
 build writing "$root/bench/src/writing.rs" || exit 1

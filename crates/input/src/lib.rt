@@ -119,7 +119,7 @@ fn read_long_unary(s: &[u8], byte: usize, bit: usize) -> Bits
     Bits::Short
 }
 
-// The answer where q zeros, and the 1 bit that ends the run, come after a bit of a byte.
+// The answer where q more zeros, and the 1 bit that ends the run, come after a bit of a byte.
 fn ended(count: u64, byte: usize, bit: usize, q: u32) -> Bits
     requires { ⌜ (count < 2 ^ 33) × (byte < 2 ^ 63) × (bit < 8) × (q < 64) ⌝ }
     ensures { λ r. ⌜ bitsAt r ≡ gotAt (countOf (count + q)) (placeOf (8 * byte + bit + (q + 1))) ⌝ }
