@@ -146,7 +146,7 @@ leading-shift m a u p l =
     sym (leading-unique (m + a) (u * 2 ^ a) (leadingZeros m u) (suc j + a) (omega (arith, t .1)) (shl-lt (suc j) a (t .3)) (omega (arith, up, le)))
 
 -- a number shifted up by a keeps its low bits
-low-shifted : (m a w : ℕ) → (w * 2 ^ a) % 2 ^ (m + a) ≡ w % 2 ^ m * 2 ^ a
+pub low-shifted : (m a w : ℕ) → (w * 2 ^ a) % 2 ^ (m + a) ≡ w % 2 ^ m * 2 ^ a
 low-shifted m a w =
     mod-pow-add (w * 2 ^ a) m a
     ∙ ap₂ (λ (x y : ℕ). x % 2 ^ m * 2 ^ a + y) (shl-shr w a) (ap (λ x. x % 2 ^ a) (sym (add-zero (w * 2 ^ a))) ∙ low w a (pow-pos a))
