@@ -53,10 +53,13 @@ compare() { # SCRIPT WORDS
     grep -v '^not compared: ' "$log"
 }
 
-# rt starts RT_JOBS checks at a time and waits for all of them: with more jobs than processors, no processor is idle. A
-# check takes less than a gigabyte.
+# rt starts RT_JOBS checks at a time and waits for all of them: with one job more than there are processors, none of
+# these is idle for long. With more jobs than that, each takes longer, since they share the caches. A check takes less
+# than a gigabyte.
 if [ -z "${RT_JOBS:-}" ]; then
-    RT_JOBS=$(awk '/^MemAvailable/ { n = int($2 / 1500000); print (n > 6 ? 6 : n < 1 ? 1 : n) }' /proc/meminfo)
+    most=$(($(nproc 2>/dev/null || echo 1) + 1))
+    RT_JOBS=$(awk -v most="$most" '/^MemAvailable/ { n = int($2 / 1500000); print (n > most ? most : n < 1 ? 1 : n) }' \
+        /proc/meminfo)
     export RT_JOBS
 fi
 run rt ci
