@@ -1,5 +1,5 @@
 -- For callers: what an answer says of the definition's question, and a count of the zeros. Assumes nothing.
-use Prim.Native.Nat.{ℕ, _+_, _*_, _-_, _/_, _%_, _^_, _≤_, _<_}
+use Prim.Native.Nat.{ℕ, _+_, _-_, _%_, _^_, _≤_, _<_}
 use native.Mathlib.Nat.{mod-eq-of-lt, lt-of-lt-of-le}
 use native.Mathlib.Omega.{arith}
 use mathlib.Core.Path.{_≡_, refl, ap, sym, _∙_}
@@ -109,7 +109,7 @@ count-more z m =
     (λ h. ⊎-elim (λ k. absurd (omega arith)) (λ k. ⊎-elim (λ j. absurd (omega arith)) (λ j. omega arith) (count-cases (z + m))) (count-cases (count z + m)))
     (count-cases z)
 
--- a count below 2 ^ 33 stands for itself, and one below 2 ^ 33 + 2 ^ 32 is less by 2 ^ 32
+-- a number below 2 ^ 33 is its own count; from there to 2 ^ 33 + 2 ^ 32, the count is less by 2 ^ 32
 pub count-stays : (c : ℕ) → c < 2 ^ 33 → c ≡ count c
 count-stays c l = ⊎-elim (λ h. omega arith) (λ h. omega arith) (count-cases c)
 

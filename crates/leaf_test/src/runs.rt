@@ -50,7 +50,7 @@ fn put(s: &mut [u8], i: usize, b: u8) {
     }
 }
 
-// A run from a bit of the first byte; all bytes are 0 before and after.
+// Lays a run into the buffer, from a bit of its first byte, reads it, and clears the buffer again.
 fn run(s: &mut [u8], bit: usize, zeros: usize) -> bool
     requires { ⌜ (bit < 8) × (zeros < 2 ^ 32) ⌝ }
 {
@@ -111,9 +111,9 @@ fn is_same(a: Bits, b: Bits) -> bool {
     }
 }
 
-// What the seeded inputs got: the inputs on which a reader differs, the runs that ended, those of 64 zeros or more, and
-// the numbers of more than 56 bits and of fewer.
-struct Tally {
+// What the seeded inputs got: the inputs on which a reader differs, the runs that ended, those of 64 zeros or more, the
+// numbers of more than 56 bits, and the other numbers.
+struct SeededCounts {
     differ: u64,
     ended: u64,
     long: u64,
@@ -128,12 +128,12 @@ fn is_long(r: Bits) -> bool {
     }
 }
 
-fn compared(s: &[u8], at: Place, n: u32, t: Tally) -> Tally {
+fn compared(s: &[u8], at: Place, n: u32, t: SeededCounts) -> SeededCounts {
     let zeros = read_unary(s, at);
     let number = read_bits(s, at, n);
     let same = is_same(zeros, bit_by_bit::unary_one_by_one(s, at))
         && is_same(number, bit_by_bit::bits_one_by_one(s, at, n));
-    Tally {
+    SeededCounts {
         differ: wrapping_add_u64(t.differ, one_if(!same)),
         ended: wrapping_add_u64(t.ended, one_if(!is_short(zeros))),
         long: wrapping_add_u64(t.long, one_if(is_long(zeros))),
@@ -162,7 +162,7 @@ fn scatter(s: &mut [u8], at: usize, v: u64)
     put_byte(s, at, 7, v);
 }
 
-// Of the inputs' bits, about one in 32 is a one.
+// Eight bytes with few ones: about one bit in 32, over all draws.
 fn few_ones(a: u64, x: u64) -> u64 {
     let b = draw(a);
     if (x >> 48) % 4 == 0 {
@@ -172,7 +172,7 @@ fn few_ones(a: u64, x: u64) -> u64 {
     }
 }
 
-fn show_tally(t: Tally) {
+fn show_counts(t: SeededCounts) {
     text(b"seeded =");
     show_number(b' ', t.differ);
     show_number(b' ', t.ended);
@@ -184,7 +184,7 @@ fn show_tally(t: Tally) {
 
 pub fn seeded() {
     let mut s = [0u8; 40];
-    let mut t = Tally {
+    let mut t = SeededCounts {
         differ: 0,
         ended: 0,
         long: 0,
@@ -209,5 +209,5 @@ pub fn seeded() {
         );
         i += 1;
     }
-    show_tally(t);
+    show_counts(t);
 }

@@ -1,6 +1,6 @@
 -- Words that hold bits of the input: their parts, their leading zeros, and what questions get. Assumes nothing.
 use Prim.Native.Nat.{ℕ, zero, suc, _+_, _*_, _-_, _/_, _%_, _^_, _≤_, _<_}
-use native.Mathlib.Nat.{add-zero, add-comm, add-assoc, mul-assoc, mul-le-mul-right, mod-lt, pow-suc, pow-succ', zero-mul, eq-zero-or-pos}
+use native.Mathlib.Nat.{add-zero, add-assoc, mul-assoc, mul-le-mul-right, mod-lt, pow-suc, pow-succ', zero-mul, eq-zero-or-pos}
 use native.Mathlib.Omega.{arith}
 use mathlib.Core.Path.{_≡_, refl, ap, ap₂, sym, _∙_, subst}
 use mathlib.Core.List.{List, [], _∷_, _++_, append-assoc}

@@ -4,7 +4,6 @@ use native.Mathlib.Omega.{arith}
 use mathlib.Core.Path.{refl, _∙_}
 use borrow.Author.Needs.{needs}
 use lib.ListN.{length}
-use Rattle.reading.specs.declared.Place.{Place}
 use Rattle.reading.proofs.Words.{taken-word, byte-at}
 use Rattle.input.proofs.ReadLoops.{Passed, begin-zeros, step-zeros, out-zeros, end-zeros, below}
 use Rattle.input.proofs.read_long_unary.Statement.{statement}

@@ -51,8 +51,8 @@ loop-less c = search needs
 loop-again : tie.Need-loop-again Inv-loop μ-loop
 loop-again c = search needs
 
-show-tally-requires : tie.Need-show-tally-requires Inv-loop μ-loop
-show-tally-requires c κs = search needs
+show-counts-requires : tie.Need-show-counts-requires Inv-loop μ-loop
+show-counts-requires c κs = search needs
 
 returns : tie.Need-returns Inv-loop μ-loop
 returns c = search needs
@@ -76,5 +76,5 @@ seeded-spec =
     add-i
     loop-less
     loop-again
-    show-tally-requires
+    show-counts-requires
     returns)
