@@ -5,11 +5,11 @@ use native.Mathlib.Omega.{arith}
 use native.Mathlib.Nat.{mod-lt, mod-eq-of-lt, add-mod, mul-one, mul-assoc, pow-suc}
 use mathlib.Core.Path.{_≡_, refl, ap, ap₂, sym, _∙_}
 use mathlib.Core.List.{List, [], _∷_, _++_}
-use lib.Bits.{bitXor, xor-lt, xor-mod, xor-shr, xor-self, xor-zero-r}
+use lib.Bits.{bitXor, xor-lt, xor-mod, xor-shr, xor-self, xor-zero-l, xor-zero-r}
 use lib.Dec.{eqb}
 use lib.Pow.{pow-pos, field, shr-shr, shl-shr, shr-lt}
 use Rattle.reading.specs.Readers.{if_then_else_}
-use Rattle.reading.specs.Bytes.{bitsOfByte}
+use Rattle.reading.specs.Bytes.{bitsOfByte, bitsOfBytes}
 use Rattle.reading.specs.NumbersAsBits.{bitsOf}
 use Rattle.rfc9639.specs.CheckSums.{crcBit, crcBits}
 use Rattle.rfc9639.proofs.CheckSums.{bit-below}
@@ -21,6 +21,11 @@ pub crc-append : (w poly r : ℕ) (s t : List ℕ) → crcBits w poly r (s ++ t)
 unfolding crcBits
 crc-append w poly r [] t = refl
 crc-append w poly r (b ∷ s) t = crc-append w poly (crcBit w poly r b) s t
+
+pub crc-cons : (w poly r b : ℕ) (s : List ℕ)
+    → crcBits w poly r (bitsOfBytes (b ∷ s)) ≡ crcBits w poly (crcBits w poly r (bitsOfByte b)) (bitsOfBytes s)
+unfolding bitsOfBytes
+crc-cons w poly r b s = crc-append w poly r (bitsOfByte b) (bitsOfBytes s)
 
 -- ---- one more bit, as an XOR
 
@@ -133,3 +138,12 @@ pub crc-byte : (w poly r b : ℕ) → poly < 2 ^ w → 8 ≤ w → r < 2 ^ w
     → crcBits w poly r (bitsOfByte b) ≡ bitXor (crcBits w poly 0 (bitsOfByte (bitXor (r / 2 ^ (w - 8)) b))) (r * 256 % 2 ^ w)
 unfolding bitsOfByte bitsOf
 crc-byte w poly r b hp h hr = crc-bits w poly 8 r b hp h hr
+
+-- ---- one byte in the XOR of two sums: it is put into one of them, and a zero byte into the other
+
+pub byte-xor : (w poly q r b : ℕ) → poly < 2 ^ w → 8 ≤ w → q < 2 ^ w → r < 2 ^ w
+    → crcBits w poly (bitXor q r) (bitsOfByte b) ≡ bitXor (crcBits w poly q (bitsOfByte 0)) (crcBits w poly r (bitsOfByte b))
+unfolding bitsOfByte bitsOf
+byte-xor zero poly q r b hp h hq hr = absurd (omega arith)
+byte-xor (suc v) poly q r b hp h hq hr =
+    ap (λ (x : ℕ). crcBits (suc v) poly (bitXor q r) (bitsOf 8 x)) (sym (xor-zero-l b)) ∙ crc-xor v poly hp 8 q r 0 b hq hr

@@ -2,5 +2,6 @@
 pub mod XorLaws
 pub mod CrcLinearity
 pub mod ByteTable
+pub mod BytesApart
 pub mod SummedBytes
 pub mod Outcome
