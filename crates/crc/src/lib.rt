@@ -1,9 +1,9 @@
 // The two check sums of a slice: the CRC-8 that ends a frame header (RFC 9639 section 9.1.8) and the CRC-16 that ends a
 // frame (section 9.3). Both answer on every slice, with the sum that the format defines over the slice's bits.
 //
-// A sum is updated by look-ups in a table of every byte's own sum: the CRC-8 byte by byte; the CRC-16 eight bytes a
-// turn, with tables of the bytes' sums with zero bytes after them, and byte by byte at the end. The definitions are
-// imported under other names, since the functions have the same ones.
+// A sum is updated with tables of every byte's own sum. The CRC-8 goes byte by byte. The CRC-16 takes eight bytes a turn
+// by eight tables, and the last few byte by byte. The definitions are imported under other names, since the functions
+// have the same ones.
 mod tables;
 
 use tables::CRC8_TABLE;
@@ -47,12 +47,13 @@ fn crc16_six(tables: &[u16; 2048], s: &[u8], from: usize) -> u16
     requires { ⌜ EightTables 16 0x8005 (now tables) × (from + 6 ≤ length (now s)) ⌝ }
     ensures { λ r. ⌜ r ≡ crcBits 16 0x8005 0 (bitsOfBytes (take 6 (drop from (now (s .entry))))) ⌝ }
 {
-    crc16_then_zeros(tables, s[from], 5)
-        ^ crc16_then_zeros(tables, s[from + 1], 4)
-        ^ crc16_then_zeros(tables, s[from + 2], 3)
-        ^ crc16_then_zeros(tables, s[from + 3], 2)
-        ^ crc16_then_zeros(tables, s[from + 4], 1)
-        ^ crc16_then_zeros(tables, s[from + 5], 0)
+    let mut xor: u16 = 0;
+    let mut k = 0;
+    while k < 6 {
+        xor ^= crc16_then_zeros(tables, s[from + k], 5 - k);
+        k += 1;
+    }
+    xor
 }
 
 // Adds eight bytes of `s` to a CRC-16. The old sum only changes the first two of them. What the other six add does not

@@ -1,5 +1,5 @@
-// The tables of the two check sums, as in claxon and libFLAC. The proofs of `crc8` and `crc16` compare every entry with
-// the sum that the definition gives (specs/Private.antt).
+// The tables of the two check sums; the first 256 entries of each are as in claxon and libFLAC. The proofs of `crc8` and
+// `crc16` compare every entry with the sum that the definition gives (specs/Private.antt).
 
 // Entry i is the CRC-8 of the byte i.
 pub const CRC8_TABLE: [u8; 256] = [

@@ -11,11 +11,6 @@ use Rattle.reading.specs.Bytes.{bitsOfBytes}
 use Rattle.crc.proofs.SummedBytes.{Summed, begin, step, steps, end}
 use Rattle.crc.proofs.crc16_by_tables.Statement.{statement}
 use Rattle.crc.proofs.crc16_by_tables.Tie as tie
-use Rattle.crc.proofs.crc16_by_tables.Reads as reads
-use Rattle.crc.proofs.crc16_by_tables.Lts as lts
-use Rattle.crc.proofs.crc16_byte.Reads as crc16-byte-reads
-use Rattle.crc.proofs.crc16_eight.Reads as crc16-eight-reads
-use Rattle.crc.proofs.crc16_six.Reads as crc16-six-reads
 
 abbrev Inv-loop : tie.InvT-loop
 Inv-loop tables s sum₀ ahead₀ i₀ sum ahead i =
@@ -34,8 +29,7 @@ crc16-six-requires : tie.Need-crc16-six-requires Inv-loop μ-loop Inv-loop2 μ-l
 crc16-six-requires c κs = search needs
 
 loop-holds : tie.Need-loop-holds Inv-loop μ-loop Inv-loop2 μ-loop2
-loop-holds c =
-    (begin _ _ _, λ h. ⊎-elim (λ w. w .2 ∙ w .1 .ensures) (λ w. absurd (omega arith)) (c .if1 .came))
+loop-holds c = (begin _ _ _, λ h. ⊎-elim (λ w. w .2 ∙ w .1 .ensures) (λ w. absurd (omega arith)) (c .if1 .came))
 
 sub-loop : tie.Need-sub-loop Inv-loop μ-loop Inv-loop2 μ-loop2
 sub-loop c = search needs

@@ -2,16 +2,13 @@
 use native.Mathlib.Omega.{arith}
 use lib.Bits.{xor-lt}
 use lib.Dec.{lit<}
-use Prim.Native.Nat.{_/_, _<_}
-use lib.Bits.{bitXor}
+use Prim.Native.Nat.{_/_}
 use Rattle.crc.proofs.ByteTable.{look-up-first}
 use Rattle.crc.proofs.crc16_byte.Statement.{statement}
 use Rattle.crc.proofs.crc16_byte.Tie as tie
 
 element-copy-out-result : tie.Need-element-copy-out-result
-element-copy-out-result c =
-    let h : bitXor (c .args .sum / 256) (c .args .byte) < 256 = xor-lt 8 (c .args .sum / 256) (c .args .byte) (omega arith) (omega arith) in
-    omega arith
+element-copy-out-result c = let h = xor-lt 8 (c .args .sum / 256) (c .args .byte) (omega arith) (omega arith) in omega arith
 
 cast-result : tie.Need-cast-result
 cast-result c = let h = element-copy-out-result c in omega arith

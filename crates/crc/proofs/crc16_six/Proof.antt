@@ -1,106 +1,59 @@
+-- `crc::crc16_six` meets its contract: its loop makes one look-up for each byte. Assumes nothing.
+use Prim.Native.Nat.{_-_}
 use native.Mathlib.Omega.{arith}
-use denote.Ref.{now}
-use lib.Dec.{lit<}
-use Rattle.crc.proofs.BytesApart.{lookUps, bytes-apart}
 use borrow.Author.Needs.{needs}
+use lib.Dec.{lit<}
+use Rattle.crc.proofs.BytesApart.{Looked, none-looked, one-looked, all-looked}
 use Rattle.crc.proofs.crc16_six.Statement.{statement}
 use Rattle.crc.proofs.crc16_six.Tie as tie
-use Rattle.crc.proofs.crc16_six.Reads as reads
-use Rattle.crc.proofs.crc16_six.Lts as lts
-use Rattle.crc.proofs.crc16_then_zeros.Reads as crc16-then-zeros-reads
 
--- src/lib.rt:50:30
-shared-slice-read-crc16-then-zeros : tie.Need-shared-slice-read-crc16-then-zeros
-shared-slice-read-crc16-then-zeros c = search needs
+abbrev Inv-loop : tie.InvT-loop
+Inv-loop tables s from xor₀ k₀ xor k = Looked 16 0x8005 s from 6 xor k
 
--- src/lib.rt:50:5
-crc16-then-zeros-requires : tie.Need-crc16-then-zeros-requires
-crc16-then-zeros-requires c κs = search needs
+abbrev μ-loop : tie.MeasureT-loop
+μ-loop tables s from xor₀ k₀ xor k = 6 - k
 
--- src/lib.rt:51:38
-add-crc16-then-zeros : tie.Need-add-crc16-then-zeros
+loop-holds : tie.Need-loop-holds Inv-loop μ-loop
+loop-holds c = none-looked _ _ _ _ _
+
+add-crc16-then-zeros : tie.Need-add-crc16-then-zeros Inv-loop μ-loop
 add-crc16-then-zeros c = search needs
 
--- src/lib.rt:51:36
-shared-slice-read-crc16-then-zeros-2 : tie.Need-shared-slice-read-crc16-then-zeros-2
-shared-slice-read-crc16-then-zeros-2 c = search needs
+shared-slice-read-crc16-then-zeros : tie.Need-shared-slice-read-crc16-then-zeros Inv-loop μ-loop
+shared-slice-read-crc16-then-zeros c = search needs
 
--- src/lib.rt:51:11
-crc16-then-zeros-requires-2 : tie.Need-crc16-then-zeros-requires-2
-crc16-then-zeros-requires-2 c κs = search needs
+sub-crc16-then-zeros : tie.Need-sub-crc16-then-zeros Inv-loop μ-loop
+sub-crc16-then-zeros c = search needs
 
--- src/lib.rt:52:38
-add-crc16-then-zeros-2 : tie.Need-add-crc16-then-zeros-2
-add-crc16-then-zeros-2 c = search needs
+crc16-then-zeros-requires : tie.Need-crc16-then-zeros-requires Inv-loop μ-loop
+crc16-then-zeros-requires c κs = search needs
 
--- src/lib.rt:52:36
-shared-slice-read-crc16-then-zeros-3 : tie.Need-shared-slice-read-crc16-then-zeros-3
-shared-slice-read-crc16-then-zeros-3 c = search needs
+add-k : tie.Need-add-k Inv-loop μ-loop
+add-k c = search needs
 
--- src/lib.rt:52:11
-crc16-then-zeros-requires-3 : tie.Need-crc16-then-zeros-requires-3
-crc16-then-zeros-requires-3 c κs = search needs
+loop-less : tie.Need-loop-less Inv-loop μ-loop
+loop-less c = search needs
 
--- src/lib.rt:53:38
-add-crc16-then-zeros-3 : tie.Need-add-crc16-then-zeros-3
-add-crc16-then-zeros-3 c = search needs
+loop-again : tie.Need-loop-again Inv-loop μ-loop
+loop-again c =
+    let before = c .before .before .before .loop in
+    one-looked _ _ _ _ _ _ _ (before .inv) _ (5 - before .k) (lit< tt) (omega arith) (omega arith) (omega arith) (c .crc16-then-zeros .ensures)
 
--- src/lib.rt:53:36
-shared-slice-read-crc16-then-zeros-4 : tie.Need-shared-slice-read-crc16-then-zeros-4
-shared-slice-read-crc16-then-zeros-4 c = search needs
-
--- src/lib.rt:53:11
-crc16-then-zeros-requires-4 : tie.Need-crc16-then-zeros-requires-4
-crc16-then-zeros-requires-4 c κs = search needs
-
--- src/lib.rt:54:38
-add-crc16-then-zeros-4 : tie.Need-add-crc16-then-zeros-4
-add-crc16-then-zeros-4 c = search needs
-
--- src/lib.rt:54:36
-shared-slice-read-crc16-then-zeros-5 : tie.Need-shared-slice-read-crc16-then-zeros-5
-shared-slice-read-crc16-then-zeros-5 c = search needs
-
--- src/lib.rt:54:11
-crc16-then-zeros-requires-5 : tie.Need-crc16-then-zeros-requires-5
-crc16-then-zeros-requires-5 c κs = search needs
-
--- src/lib.rt:55:38
-add-crc16-then-zeros-5 : tie.Need-add-crc16-then-zeros-5
-add-crc16-then-zeros-5 c = search needs
-
--- src/lib.rt:55:36
-shared-slice-read-crc16-then-zeros-6 : tie.Need-shared-slice-read-crc16-then-zeros-6
-shared-slice-read-crc16-then-zeros-6 c = search needs
-
--- src/lib.rt:55:11
-crc16-then-zeros-requires-6 : tie.Need-crc16-then-zeros-requires-6
-crc16-then-zeros-requires-6 c κs = search needs
-
--- src/lib.rt:46:1
-returns : tie.Need-returns
-unfolding lookUps
-returns c = cc (bytes-apart 16 0x8005 (lit< tt) (omega arith) (now (c .before .before .before .before .before .before .before .before .before .before .before .before .before .args .s)) (c .before .before .before .before .before .before .before .before .before .before .before .before .before .args .from) 5 (omega arith))
+returns : tie.Need-returns Inv-loop μ-loop
+returns c = all-looked _ _ _ _ _ _ _ (c .before .loop .inv) (omega arith)
 
 pub crc16-six-spec : {M : Type 1} → statement M
 crc16-six-spec =
     tie.close
     (tie.spec
-    shared-slice-read-crc16-then-zeros
-    crc16-then-zeros-requires
+    Inv-loop
+    μ-loop
+    loop-holds
     add-crc16-then-zeros
-    shared-slice-read-crc16-then-zeros-2
-    crc16-then-zeros-requires-2
-    add-crc16-then-zeros-2
-    shared-slice-read-crc16-then-zeros-3
-    crc16-then-zeros-requires-3
-    add-crc16-then-zeros-3
-    shared-slice-read-crc16-then-zeros-4
-    crc16-then-zeros-requires-4
-    add-crc16-then-zeros-4
-    shared-slice-read-crc16-then-zeros-5
-    crc16-then-zeros-requires-5
-    add-crc16-then-zeros-5
-    shared-slice-read-crc16-then-zeros-6
-    crc16-then-zeros-requires-6
+    shared-slice-read-crc16-then-zeros
+    sub-crc16-then-zeros
+    crc16-then-zeros-requires
+    add-k
+    loop-less
+    loop-again
     returns)
