@@ -1,18 +1,20 @@
 #!/bin/sh
-# Measures reading against claxon 0.4.3 on the same input, in one process, and then writing:
-#     sh bench/run.sh [--claxon DIR] [--seconds N]
-# N is the length of the sound, by default 240. The output is for docs/SPEED.md. It needs 'flac' to make the input, and
-# perf or valgrind to count instructions.
+# Measures reading against claxon 0.4.3 and libFLAC on the same input, in one process, and then writing:
+#     sh bench/run.sh [--claxon DIR] [--seconds N] [--hours N]
+# N is the length of the sound, by default 240 seconds, and how long it is read in a row, by default 12 hours (0: not at
+# all). The output is for docs/SPEED.md. It needs 'flac' to make the input, and perf or valgrind to count instructions.
+# libFLAC has its columns if its headers are there (Debian: libflac-dev).
 set -u
 name=bench
 # shellcheck source=oracle/build.sh
 . "$(dirname "$0")/../oracle/build.sh"
 command -v flac >/dev/null 2>&1 || skip "there is no flac on the PATH to make the material"
-seconds=240
+seconds=240 hours=12
 while [ $# -gt 0 ]; do
     case $1 in
     --seconds) seconds=${2:?"bench: --seconds needs a number"} && shift 2 ;;
-    *) echo "usage: sh bench/run.sh [--claxon DIR] [--seconds N]" >&2 && exit 2 ;;
+    --hours) hours=${2:?"bench: --hours needs a number"} && shift 2 ;;
+    *) echo "usage: sh bench/run.sh [--claxon DIR] [--seconds N] [--hours N]" >&2 && exit 2 ;;
     esac
 done
 
@@ -26,21 +28,54 @@ instructions() { # WHO: how many instructions one reading of the short stream ta
     fi
 }
 
-count() { # LEVEL SECONDS: a row of the table
-    "$out/reading" short "$out" "$1" "$2" || exit 1
+count() { # SECONDS OPTIONS: a row of the table
+    length=$1
+    shift
+    "$out/reading" make "$out" "$length" "$@" || exit 1
     bytes=$("$out/reading" once none "$out/material.flac")
     start=$(instructions none)
     ours=$(($(instructions ours) - start))
     theirs=$(($(instructions claxon) - start))
-    echo "$1 $2 $bytes $ours $theirs" |
-        awk '{ printf "| flac %s, %d seconds | %.1f | %.1f | %.2f |\n", $1, $2, $4 / $3, $5 / $3, $4 / $5 }'
+    libflac=0
+    [ "$has_libflac" = no ] || libflac=$(($(instructions libflac) - start))
+    echo "$length $bytes $ours $theirs $libflac $*" | awk '{
+        options = $6
+        for (i = 7; i <= NF; i++) options = options " " $i
+        printf "| flac %s, %d seconds | %.1f | %.1f | ", options, $1, $3 / $2, $4 / $2
+        printf $5 ? sprintf("%.1f", $5 / $2) : "-"
+        printf " | %.2f |\n", $3 / $4
+    }'
 }
 
-build reading "$root/bench/src/reading.rs" || exit 1
+in_a_row() { # OPTIONS: a row of the table of hours
+    "$out/reading" make "$out" "$seconds" "$@" && "$out/reading" hours "flac $*" "$out/material.flac" "$hours" || exit 1
+}
+
+# libFLAC's side is C.
+with_libflac=''
+if echo '#include <FLAC/stream_decoder.h>' | cc -E - >/dev/null 2>&1; then
+    cc -std=c99 -O2 -Wall -Wextra -c "$root/bench/src/libflac.c" -o "$out/libflac.o" || exit 1
+    with_libflac="--cfg libflac -C link-arg=$out/libflac.o -l FLAC"
+fi
+# shellcheck disable=SC2086
+build reading "$root/bench/src/reading.rs" --check-cfg 'cfg(libflac)' $with_libflac || exit 1
+has_libflac=$("$out/reading" has-libflac)
 model=$(sed -n 's/^model name[[:space:]]*: //p' /proc/cpuinfo | head -n 1)
 echo "$(date -u +%Y-%m-%d), $(uname -m), ${model:-processor unknown}, $(rustc --version | cut -d ' ' -f 1-2), $(flac --version)"
+[ "$has_libflac" = yes ] || echo "libFLAC is not measured, since its headers are not there."
 echo
 "$out/reading" tables "$out" "$seconds" || exit 1
+if [ "$hours" -gt 0 ]; then
+    echo "The same sound read in a row for $hours hours, frame by frame by turns:"
+    echo
+    echo "| input | sound | bytes | ours | claxon | ours / claxon | peak memory after the first round | at the end |"
+    echo "|---|---|---|---|---|---|---|---|"
+    in_a_row -5
+    in_a_row -8
+    in_a_row -0
+    in_a_row --lax -l 32
+    echo
+fi
 counter=''
 if perf stat -e instructions:u true 2>&1 | grep -q '[0-9] .*instructions'; then
     counter=perf
@@ -52,11 +87,14 @@ if [ -z "$counter" ]; then
 else
     echo "Instructions a byte, counted with $counter:"
     echo
-    echo "| input | ours | claxon | ours / claxon |"
-    echo "|---|---|---|---|"
-    for length in 5 10 20 40; do count -5 "$length"; done
-    count -8 5
-    count -0 5
+    echo "| input | ours | claxon | libFLAC | ours / claxon |"
+    echo "|---|---|---|---|---|"
+    for length in 5 10 20 40; do count "$length" -5; done
+    count 5 -8
+    count 5 -0
+    count 5 --lax -l 32
+    count 5 --lax -5 -b 192
+    count 5 --lax -5 -b 65535
 fi
 echo
 build writing "$root/bench/src/writing.rs" || exit 1

@@ -37,11 +37,14 @@ command -v cc >/dev/null 2>&1 || missing="$missing, no linker cc on the PATH"
 . "$root/bindings/library.sh"
 mkdir -p "$out" || exit 2
 
-build() { # PROGRAM SOURCE: the program, with claxon, the binding and what the programs share
+build() { # PROGRAM SOURCE WORDS: the program, with claxon, the binding and what the programs share; WORDS are for rustc
+    program=$1
+    source=$2
+    shift 2
     rust 2015 --crate-type rlib --crate-name claxon --cap-lints allow "$claxon/src/lib.rs" &&
         rust 2021 --crate-type rlib --crate-name thriftacorn -L "native=$library" "$root/bindings/rust/src/lib.rs" &&
         rust 2021 --crate-type rlib --crate-name common --extern claxon --extern thriftacorn "$root/oracle/common/lib.rs" &&
-        rust 2021 --crate-name "$1" --extern claxon --extern thriftacorn --extern common "$2"
+        rust 2021 --crate-name "$program" --extern claxon --extern thriftacorn --extern common "$source" "$@"
 }
 
 rust() { # EDITION WORDS: in one codegen unit, which makes claxon fastest
