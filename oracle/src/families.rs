@@ -13,10 +13,11 @@ pub struct Family {
     pub unit: fn(&mut Judge, usize, &mut Draw, &mut Pen),
 }
 
-pub const FAMILIES: [Family; 10] = [
+pub const FAMILIES: [Family; 11] = [
     Family { name: "built", units: 150, unit: built },
     Family { name: "built-tiny", units: 300, unit: built_tiny },
     Family { name: "extremes", units: 300, unit: extremes },
+    Family { name: "edges", units: 12, unit: edges },
     Family { name: "faults", units: 6, unit: faults },
     Family { name: "cuts", units: 2, unit: cuts },
     Family { name: "flips", units: 10, unit: flips },
@@ -26,7 +27,7 @@ pub const FAMILIES: [Family; 10] = [
     Family { name: "room", units: 20, unit: room },
 ];
 
-const MIXED: Taste = Taste { sizes: Sizes::Mixed, fault: None, extreme: false };
+const MIXED: Taste = Taste { sizes: Sizes::Mixed, fault: None, extreme: false, edges: false };
 const TINY: Taste = Taste { sizes: Sizes::Tiny, ..MIXED };
 
 /// One frame, with a pen of its own.
@@ -52,6 +53,22 @@ fn built_tiny(judge: &mut Judge, family: usize, draw: &mut Draw, pen: &mut Pen) 
 fn extremes(judge: &mut Judge, family: usize, draw: &mut Draw, pen: &mut Pen) {
     single(draw, pen, Taste { extreme: true, ..TINY });
     judge.made_for(0, family, &pen.bytes);
+}
+
+/// Codes that end where a word of eight bytes ends, and linear predictors that are fixed ones. The frame is read with
+/// nothing after it, with 1 to 17 bytes after it, and with 1 to 17 bytes cut off: so every word that its last codes lie in
+/// is there, or is not.
+fn edges(judge: &mut Judge, family: usize, draw: &mut Draw, pen: &mut Pen) {
+    single(draw, pen, Taste { edges: true, ..TINY });
+    let length = pen.bytes.len();
+    judge.made_for(0, family, &pen.bytes);
+    for cut in 1..=length.min(17) {
+        judge.one(family, &pen.bytes[..length - cut]);
+    }
+    for _ in 0..17 {
+        pen.bytes.push(draw.pick(&[0, 0xFF, 0x55, 1, 0x80]));
+        judge.made_for(0, family, &pen.bytes);
+    }
 }
 
 /// Each field wrong in turn, with the check sums right.

@@ -13,6 +13,7 @@ pub struct Taste {
     pub sizes: Sizes,
     pub fault: Option<Fault>,
     pub extreme: bool,
+    pub edges: bool,
 }
 
 /// What was written for a frame.
@@ -46,7 +47,7 @@ pub fn write_frame(pen: &mut Pen, draw: &mut Draw, taste: Taste) -> Written {
     for channel in 0..header.channels() {
         let fault = taste.fault.filter(|fault| is_in_subframe(*fault) && channel == faulty);
         let width = header.width(channel);
-        Subframe { pen, draw, size, width, fault, extreme: taste.extreme }.write();
+        Subframe { pen, draw, size, width, fault, extreme: taste.extreme, edges: taste.edges }.write();
     }
     let padding = draw.next();
     pen.align(if draw.once_in(2) { padding } else { 0 });

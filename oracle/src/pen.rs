@@ -16,6 +16,11 @@ impl Pen {
         self.count = 0;
     }
 
+    /// How many bits were written.
+    pub fn position(&self) -> u32 {
+        8 * self.bytes.len() as u32 + self.count
+    }
+
     /// The low `bits` bits of the value; at most 56.
     pub fn put(&mut self, value: u64, bits: u32) {
         self.held = self.held << bits | value & ((1 << bits) - 1);

@@ -13,7 +13,12 @@ pub struct Subframe<'a> {
     pub fault: Option<Fault>,
     /// Samples, coefficients and residuals at the ends of their ranges.
     pub extreme: bool,
+    /// Codes near the end of a word of eight bytes, and linear predictors that have a fixed one's coefficients.
+    pub edges: bool,
 }
+
+/// The coefficients of the fixed predictors, by order (RFC 9639 section 9.2.5).
+const FIXED: [&[i64]; 5] = [&[], &[1], &[2, -1], &[3, -3, 1], &[4, -6, 4, -1]];
 
 impl Subframe<'_> {
     pub fn write(&mut self) {
@@ -103,16 +108,37 @@ impl Subframe<'_> {
             self.pen.put(sample, self.width);
         }
         if order >= 32 {
-            let precision = if self.fault == Some(Precision) { 16 } else { self.draw.from(1, 15) };
-            self.pen.field(Field::Precision, precision - 1, 4);
-            let shift = if self.fault == Some(Shift) { self.draw.from(16, 31) } else { self.draw.below(16) };
-            self.pen.field(Field::Shift, if self.extreme { shift & 17 } else { shift }, 5);
-            for _ in 0..warm {
-                let coefficient = self.draw_number(precision);
-                self.pen.put(coefficient, precision);
+            if self.edges && warm <= 4 && self.draw.once_in(2) {
+                self.write_fixed_row(warm);
+            } else {
+                self.write_coefficients(warm);
             }
         }
         self.write_residual(warm);
+    }
+
+    /// The precision, the shift and the coefficients of a linear predictor.
+    fn write_coefficients(&mut self, order: u32) {
+        let precision = if self.fault == Some(Precision) { 16 } else { self.draw.from(1, 15) };
+        self.pen.field(Field::Precision, precision - 1, 4);
+        let shift = if self.fault == Some(Shift) { self.draw.from(16, 31) } else { self.draw.below(16) };
+        self.pen.field(Field::Shift, if self.extreme { shift & 17 } else { shift }, 5);
+        for _ in 0..order {
+            let coefficient = self.draw_number(precision);
+            self.pen.put(coefficient, precision);
+        }
+    }
+
+    /// The same with the coefficients of a fixed predictor, sometimes with one of them changed; mostly without a shift.
+    fn write_fixed_row(&mut self, order: u32) {
+        let precision = self.draw.from(4, 15);
+        self.pen.field(Field::Precision, precision - 1, 4);
+        let shift = if self.draw.once_in(4) { self.draw.below(16) } else { 0 };
+        self.pen.field(Field::Shift, shift, 5);
+        let other = if self.draw.once_in(4) { self.draw.below(order) } else { order };
+        for (at, coefficient) in (0..).zip(FIXED[order as usize]) {
+            self.pen.put((coefficient ^ i64::from(at == other)) as u64, precision);
+        }
     }
 
     fn draw_partition_order(&mut self, warm: u32) -> u32 {
@@ -150,17 +176,35 @@ impl Subframe<'_> {
         let (field, most) = if method == 0 { (Field::FourBitParameter, 14) } else { (Field::FiveBitParameter, 30) };
         let parameter = if self.extreme { most } else { self.draw.from(0, most) };
         self.pen.field(field, parameter, 4 + method);
+        let mut before = self.pen.position();
         for _ in 0..count {
             let rest = if self.extreme && self.draw.once_in(2) { u64::MAX } else { self.draw.next() };
             let quotient = match self.draw.below(1024) {
                 _ if self.extreme => self.draw.pick(&[0, 1, 2, 3, 3, 4, 5, 7]),
+                _ if self.edges => self.draw_edge(before, parameter),
                 0 => self.draw.below(4000),
                 1..=8 => self.draw.below(80),
                 _ => self.draw.next().trailing_zeros(),
             };
+            before = self.pen.position();
             self.pen.unary(quotient);
             self.pen.put(rest, parameter);
         }
+    }
+
+    /// A quotient whose code ends near the end of the eight bytes that start where this code does, or where the code
+    /// before it does; or whose code has about 64 bits; or with a long run of zeros.
+    fn draw_edge(&mut self, before: u32, parameter: u32) -> u32 {
+        let here = self.pen.position();
+        let near = self.draw.below(7);
+        let most = match self.draw.below(8) {
+            0..=2 => before / 8 * 8 + 61 + near,
+            3 => here / 8 * 8 + 61 + near,
+            4 => here + 61 + near,
+            5 => here + self.draw.below(200),
+            _ => here + parameter + 1 + self.draw.next().trailing_zeros(),
+        };
+        most.saturating_sub(here + parameter + 1)
     }
 
     /// An escaped partition (RFC 9639 section 9.2.7.1), which neither reader supports.
