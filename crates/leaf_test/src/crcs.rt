@@ -30,3 +30,15 @@ pub fn sums() {
     both(data, 6, 15);
     both(data, 15, 15);
 }
+
+// The first n of forty seeded bytes, for each n from 1: so `crc16` takes its eight bytes no times to four times, with each
+// number of bytes left over. The sums were worked out bit by bit in Python.
+pub fn lengths() {
+    let data: &[u8] =
+        b"\x71\x51\x0c\xb1\x4d\xf8\x2b\x1e\xa1\xbb\x41\x5c\x21\xa6\xeb\x67\xc6\xc9\x61\x4c\x35\xad\x15\x5a\x33\xaf\x82\xff\x41\xc6\x95\x1d\xba\xeb\xbc\xb9\xbc\xba\xdd\xbd";
+    let mut n = 1;
+    while n <= data.len() {
+        both(data, 0, n);
+        n += 1;
+    }
+}

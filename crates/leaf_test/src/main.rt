@@ -12,6 +12,7 @@ mod subframes;
 
 fn main() {
     crcs::sums();
+    crcs::lengths();
     inputs::inputs();
     runs::runs();
     runs::seeded();
