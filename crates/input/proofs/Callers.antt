@@ -1,21 +1,28 @@
--- For callers: what an answer says of the definition's question, and a count of the zeros. Assumes nothing.
-use Prim.Native.Nat.{ℕ, _+_, _-_, _%_, _^_, _≤_, _<_}
-use native.Mathlib.Nat.{mod-eq-of-lt, lt-of-lt-of-le}
+-- For callers: what an answer says of the definition's question, a count of the zeros, and a word. Assumes nothing.
+use Prim.Native.Nat.{ℕ, _+_, _-_, _*_, _%_, _^_, _≤_, _<_}
+use native.Mathlib.Nat.{mod-eq-of-lt, lt-of-lt-of-le, zero-mul, zero-add}
 use native.Mathlib.Omega.{arith}
 use mathlib.Core.Path.{_≡_, refl, ap, sym, _∙_}
-use mathlib.Core.Bool.{Bool, true, false}
+use mathlib.Core.Bool.{Bool, true, false, cond}
 use mathlib.Core.List.{List}
 use mathlib.Core.Logic.{_⊎_, inl, inr, ⊎-elim}
-use borrow.Author.Tests.{lt-ltb, le-ltb, ltb-true, ltb-false}
-use lib.Dec.{ltb}
+use borrow.Author.Tests.{lt-ltb, le-ltb, ltb-true, ltb-false, le-leb, lt-leb, leb-true}
+use lib.Dec.{leb, ltb}
+use lib.ListN.{length, take, drop, length-drop}
 use lib.Pow.{pow-mono}
+use lib.Seq.{length-take-le}
 use Rattle.reading.specs.declared.Place.{Place}
 use Rattle.reading.specs.Readers.{bits, zeros}
 use Rattle.reading.specs.Places.{At, gotAt, refusedAt, shortAt, runAt}
+use Rattle.reading.specs.Bytes.{bitsOfBytes}
+use Rattle.reading.specs.NumbersAsBits.{bitsOf, spelt}
+use Rattle.reading.proofs.Bits.{bits-bitsOfBytes, length-bitsOfBytes}
 use Rattle.reading.proofs.ByteRuns.{bits-below}
+use Rattle.reading.proofs.NumbersAsBits.{bits-take, bits-drop, bitsOf-spelt, spelt-bitsOf}
+use Rattle.reading.proofs.Words.{WordAt, taken-word}
 use Rattle.input.specs.declared.Bits.{Bits}
 use Rattle.input.specs.declared.Bits.the-variants.{Value, Short}
-use Rattle.input.specs.Answers.{bitsAt, mapAt, low64, count, countedZeros}
+use Rattle.input.specs.Answers.{bitsAt, mapAt, low64, count, countedZeros, wordFrom}
 
 -- ---- read_bits: a number of at most 64 bits is exact
 
@@ -115,3 +122,33 @@ count-stays c l = ⊎-elim (λ h. omega arith) (λ h. omega arith) (count-cases 
 
 pub count-back : (c : ℕ) → 2 ^ 33 ≤ c → c < 2 ^ 33 + 2 ^ 32 → c - 2 ^ 32 ≡ count c
 count-back c l h = ⊎-elim (λ k. absurd (omega arith)) (λ k. omega arith) (count-cases c)
+
+-- ---- word_from
+
+module _ (s : List ℕ) (byte : ℕ) where
+  abbrev eight : List ℕ
+  eight = take 64 (drop (8 * byte) (bitsOfBytes s))
+
+  pub word-short : length s < byte + 8 → 0 ≡ wordFrom s byte
+  unfolding wordFrom
+  word-short h = rw (lt-leb _ _ h)
+
+  pub word-whole : {w : ℕ} → byte + 8 ≤ length s → w < 2 ^ 64 → bitsOf 64 w ≡ eight → w ≡ wordFrom s byte
+  unfolding wordFrom
+  word-whole {w} h l e =
+      rw (le-leb _ _ h) (sym (ap (spelt 0) (sym e) ∙ spelt-bitsOf 0 64 w ∙ ap (λ x. x + w % 2 ^ 64) (zero-mul (2 ^ 64)) ∙ zero-add (w % 2 ^ 64) ∙ mod-eq-of-lt l))
+
+  eight-bits : byte + 8 ≤ length s → bitsOf 64 (spelt 0 eight) ≡ eight
+  eight-bits h =
+      let bs : List ℕ = drop (8 * byte) (bitsOfBytes s) in
+      let n : length eight ≡ 64 = length-take-le 64 bs (omega (arith, length-drop (8 * byte) (bitsOfBytes s), length-bitsOfBytes s)) in
+      ap (λ k. bitsOf k (spelt 0 eight)) (sym n) ∙ bitsOf-spelt 0 eight (bits-take 64 bs (bits-drop (8 * byte) (bitsOfBytes s) (bits-bitsOfBytes s)))
+
+  -- a word that is not 0 is that of eight bytes
+  pub word-at-byte : {w : ℕ} → w ≡ wordFrom s byte → 0 < w → (byte + 8 ≤ length s) × WordAt s (8 * byte) 64 w
+  unfolding wordFrom
+  word-at-byte {w} e p = go (leb (byte + 8) (length s)) refl e
+    where
+      go : (b : Bool) → leb (byte + 8) (length s) ≡ b → w ≡ cond b (spelt 0 eight) 0 → (byte + 8 ≤ length s) × WordAt s (8 * byte) 64 w
+      go true t f = let h = leb-true _ _ t in (h, taken-word (ap (bitsOf 64) f ∙ eight-bits h))
+      go false t f = absurd (omega arith)

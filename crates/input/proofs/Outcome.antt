@@ -8,6 +8,7 @@ use Rattle.input.specs.declared.Bits.the-variants.{Value, Short}
 use Rattle.input.specs.Answers.{bitsAt}
 use Rattle.input.proofs.read_bits
 use Rattle.input.proofs.read_unary
+use Rattle.input.proofs.word_from
 
 back : At ℕ → Bits
 back (gotAt v p) = Value v p
@@ -28,3 +29,6 @@ read-bits-one κs args r r′ left left′ p q = (bitsAt-one r r′ (one-value p
 
 pub read-unary-one : OneOutcome read_unary.ended read_unary.Reads.Learnt
 read-unary-one κs args r r′ left left′ p q = (bitsAt-one r r′ (one-value p q), refl)
+
+pub word-from-one : OneOutcome word_from.ended word_from.Reads.Learnt
+word-from-one κs args r r′ left left′ p q = (one-value p q, refl)

@@ -10,7 +10,7 @@ ghost use Rattle.reading.specs.Readers.{bits, zeros};
 ghost use Rattle.reading.specs.Places.{placeOf, gotAt, runAt};
 ghost use Rattle.reading.specs.Bytes.{bitsOfBytes};
 ghost use Rattle.reading.specs.NumbersAsBits.{bitsOf};
-ghost use Rattle.input.specs.Answers.{bitsAt, low64, count as countOf, countedZeros};
+ghost use Rattle.input.specs.Answers.{bitsAt, low64, count as countOf, countedZeros, wordFrom};
 
 // What was read and the place after it, or that the input ends first.
 pub enum Bits {
@@ -159,6 +159,17 @@ fn later(byte: usize, bit: usize, m: usize) -> Place
         byte: byte + t / 8,
         bit: t % 8,
     }
+}
+
+// The word that the eight bytes from a byte on make, or 0 where fewer than eight are left. One comparison says which,
+// with a number that a caller's loop computes once.
+pub fn word_from(s: &[u8], byte: usize) -> u64
+    ensures { λ r. ⌜ r ≡ wordFrom (now (s .entry)) byte ⌝ }
+{
+    if number::saturating_sub(s.len(), 7) <= byte {
+        return 0;
+    }
+    word_at(s, byte)
 }
 
 // The word that eight bytes make: its 64 bits are those of the input from that byte on. One load, in the machine.

@@ -1,19 +1,21 @@
 -- Words that hold bits of the input: their parts, their leading zeros, and what questions get. Assumes nothing.
 use Prim.Native.Nat.{ℕ, zero, suc, _+_, _*_, _-_, _/_, _%_, _^_, _≤_, _<_}
-use native.Mathlib.Nat.{add-zero, add-assoc, mul-assoc, mul-le-mul-right, mod-lt, pow-suc, pow-succ', zero-mul, eq-zero-or-pos}
+use native.Mathlib.Nat.{add-zero, zero-add, add-assoc, mul-assoc, mul-le-mul-right, mod-lt, pow-suc, pow-succ', zero-mul, one-mul, eq-zero-or-pos}
 use native.Mathlib.Omega.{arith}
 use mathlib.Core.Path.{_≡_, refl, ap, ap₂, sym, _∙_, subst}
 use mathlib.Core.List.{List, [], _∷_, _++_, append-assoc}
 use mathlib.Core.Logic.{_⊎_, inl, inr, ⊎-elim}
 use lib.Count.{leadingZeros, leading-of-zero, leading-top, leading-unique}
 use lib.ListN.{length, getD, take, drop, replicate, take-append-drop}
-use lib.Pow.{pow-pos, pow-add, high, low, field, mod-pow-add, shl-lt, shl-shr, shr-shr}
+use lib.Pow.{pow-pos, pow-add, high, low, split as parts, field, mod-pow-add, shl-lt, shl-shr, shr-shr}
 use lib.Seq.{drop-cons, drop-at, drop-drop, take-at}
-use Rattle.reading.specs.Readers.{found, bitsFrom, zerosFrom}
+use Rattle.reading.specs.Readers.{nextBits, nextZeros, bits, zeros, reply, found, bitsFrom, zerosFrom}
 use Rattle.reading.specs.Bytes.{bitsOfBytes}
+use Rattle.reading.specs.Places.{placeOf, gotAt, runAt}
 use Rattle.reading.specs.NumbersAsBits.{bitsOf, unary, spelt}
 use Rattle.reading.proofs.NumbersAsBits.{length-bitsOf, bitsOf-split, bitsOf-mod, bitsOf-zero, bitsOf-one, spelt-bitsOf, bitsOfBytes-cons}
 use Rattle.reading.proofs.Bits.{bitsReply, zerosReply}
+use Rattle.reading.proofs.ByteRuns.{In, place-position, ofReply, runAt-ask}
 
 -- the n bits from position i are the low n bits of w
 pub record WordAt (s : List ℕ) (i n w : ℕ) : Type 0 where
@@ -91,6 +93,10 @@ word-middle {s} {i} {n} {w} a k l h =
     let e : n ≡ a + (k + b) = omega arith in
     word-front k b (word-after a (k + b) (word-as refl e refl h))
 
+-- only its low n bits count
+word-low : {s : List ℕ} {i n w : ℕ} → WordAt s i n w → WordAt s i n (w % 2 ^ n)
+word-low {s} {i} {n} {w} h = record { is = h .is ∙ ap (λ x. x ++ drop (i + n) (bitsOfBytes s)) (sym (bitsOf-mod n w)) }
+
 -- a machine finds it by two shifts: the first drops the a bits before it
 pub middle-shifted : (n a k w : ℕ) → a + k ≤ n → (w * 2 ^ a) % 2 ^ n / 2 ^ (n - k) ≡ w / 2 ^ (n - (a + k)) % 2 ^ k
 middle-shifted n a k w l =
@@ -99,6 +105,9 @@ middle-shifted n a k w l =
     let f : n - k ≡ a + b = omega arith in
     ap₂ (λ x y. (w * 2 ^ a) % 2 ^ x / 2 ^ y) e f ∙ field (w * 2 ^ a) k (a + b)
     ∙ ap (λ x. x % 2 ^ k) (sym (shr-shr (w * 2 ^ a) a b) ∙ ap (λ x. x / 2 ^ b) (shl-shr w a))
+
+pub word-shifted : {s : List ℕ} {i n w : ℕ} (a k : ℕ) → a + k ≤ n → WordAt s i n w → WordAt s (i + a) k ((w * 2 ^ a) % 2 ^ n / 2 ^ (n - k))
+word-shifted {n = n} {w} a k l h = word-as refl refl (sym (middle-shifted n a k w l)) (word-low (word-middle a k l h))
 
 -- ---- what each question gets from a word
 
@@ -134,6 +143,23 @@ module _ {s : List ℕ} {i : ℕ} where
       ap (zerosFrom z i) (h .is ∙ ap (λ x. x ++ rest) (bitsOf-one q) ∙ append-assoc (replicate q 0) (1 ∷ []) rest) ∙ zeros-on q z i (1 ∷ rest)
       ∙ ap (found (z + q)) (omega arith)
 
+-- the same, of a run from the place of its first bit
+module _ {s : List ℕ} {i : ℕ} (l : i ≤ 8 * length s) where
+  here : In s (placeOf i)
+  here = record { bit = omega arith; end = omega arith }
+
+  pub zeros-got : (q : ℕ) → WordAt s i (suc q) 1 → runAt zeros s (placeOf i) ≡ gotAt q (placeOf (i + suc q))
+  unfolding zeros reply ofReply
+  zeros-got q h =
+      runAt-ask nextZeros here ∙ ap (λ j. ofReply (zerosReply s 0 j)) (place-position i) ∙ ap ofReply (one-ends q 0 h)
+      ∙ ap (λ x. gotAt x (placeOf (i + suc q))) (zero-add q)
+
+  pub bits-got : (k : ℕ) {w : ℕ} → WordAt s i k w → runAt (bits k) s (placeOf i) ≡ gotAt (w % 2 ^ k) (placeOf (i + k))
+  unfolding bits reply ofReply bitsFrom
+  bits-got k {w} h =
+      runAt-ask (nextBits k) here ∙ ap₂ (λ m j. ofReply (bitsReply s m 0 j)) (sym (add-zero k)) (place-position i) ∙ ap ofReply (bits-pass k 0 0 h)
+      ∙ ap (λ x. gotAt x (placeOf (i + k))) (ap (λ x. x + w % 2 ^ k) (zero-mul (2 ^ k)) ∙ zero-add (w % 2 ^ k))
+
 -- ---- leading zeros, over the width
 
 -- zeros after a number leave those before it
@@ -155,12 +181,29 @@ low-shifted m a w =
 one-left : (j w : ℕ) → 2 ^ j ≤ w → w < 2 ^ suc j → w / 2 ^ j ≡ 1
 one-left j w a b = ap (λ x. x / 2 ^ j) (let e : w ≡ 1 * 2 ^ j + (w - 2 ^ j) = omega arith in e) ∙ high 1 j (omega (arith, pow-suc 2 j))
 
+-- a number of n bits that is not 0 has a first one
+module _ (n v : ℕ) (p : 0 < v) (l : v < 2 ^ n) where
+  pub leading-most : leadingZeros n v ≤ n - 1
+  leading-most = omega (arith, leading-top n v p l .1)
+
+  pub first-one : v / 2 ^ (n - 1 - leadingZeros n v) ≡ 1
+  first-one =
+      let t = leading-top n v p l in
+      let e : n - 1 - leadingZeros n v ≡ t .0 = omega (arith, t .1) in ap (λ j. v / 2 ^ j) e ∙ one-left (t .0) v (t .2) (t .3)
+
+-- a one with j bits after it, and the first k of them
+pub one-and-bits : (v j k : ℕ) → k ≤ j → v / 2 ^ j ≡ 1 → v / 2 ^ (j - k) ≡ 2 ^ k + v / 2 ^ (j - k) % 2 ^ k
+one-and-bits v j k l e =
+    let x : ℕ = v / 2 ^ (j - k) in
+    let f : j - k + k ≡ j = omega arith in
+    sym (parts x k)
+    ∙ ap (λ y. y + x % 2 ^ k) (ap (λ y. y * 2 ^ k) (shr-shr v (j - k) k ∙ ap (λ y. v / 2 ^ y) f ∙ e) ∙ one-mul (2 ^ k))
+
 -- a word of n bits, shifted up by the a bits before the place; q is the number of its leading zeros
 module _ {s : List ℕ} {i n a w q : ℕ} (l : a ≤ n) (h : WordAt s i n w) (e : q ≡ leadingZeros n ((w * 2 ^ a) % 2 ^ n)) where
   -- the bits from the place on
   rest : WordAt s (i + a) (n - a) (w % 2 ^ (n - a))
-  rest = let f : n ≡ a + (n - a) = omega arith in let k = word-after a (n - a) (word-as refl f refl h) in
-      record { is = k .is ∙ ap (λ x. x ++ drop (i + a + (n - a)) (bitsOfBytes s)) (sym (bitsOf-mod (n - a) w)) }
+  rest = let f : n ≡ a + (n - a) = omega arith in word-low (word-after a (n - a) (word-as refl f refl h))
 
   count-is : q ≡ leadingZeros (n - a + a) (w % 2 ^ (n - a) * 2 ^ a)
   count-is =

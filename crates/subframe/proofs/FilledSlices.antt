@@ -13,11 +13,8 @@ use mir.Val.{SFits, toZ, ofZ}
 use mir.Facts.{toZ-ofZ}
 use Rattle.reading.specs.declared.Place.{Place}
 use Rattle.reading.specs.Readers.{Ask, many}
-use Rattle.reading.specs.Places.{gotAt, shortAt, runAt}
+use Rattle.reading.specs.Places.{At, gotAt, shortAt, runAt}
 use Rattle.reading.proofs.ByteRuns.{In, stays-in, prepended, prepended-nil, many-end, many-step, many-short}
-use Rattle.subframe.specs.declared.answers.SampleRead.{SampleRead}
-use Rattle.subframe.specs.declared.answers.SampleRead.the-variants.{Value, Short}
-use Rattle.subframe.specs.Private.{sampleReadAt}
 use Rattle.subframe.proofs.SliceParts.{answer-is}
 
 -- the slice held l₀, its first i are filled, and it holds l now
@@ -50,13 +47,14 @@ module _ {p : Ask ℤ} {s : List ℕ} {at₀ : Place} {l₀ l : List ℤ} {i : �
         ∙ ap (λ t. prepended t (runAt (many (length l₀ - (i + 1)) p) s at′)) (sym (take-suc-set l i x h) ∙ ap (λ n. take n (set l i x)) (sym (add-one i)));
   }
 
-  -- a turn and the way out, by what the reader's function answered; the code stores a signed value by its bits
-  module _ {r : SampleRead} (says : sampleReadAt r ≡ runAt p s at) where
-    pub step : {z : ℤ} {q : Place} → r ≡ Value z q → SFits w32 z → i < length l → Filling p s at₀ l₀ (set l i (toZ w32 (ofZ w32 z))) (i + 1) q
-    step e f h = rw (toZ-ofZ f) (filled h (answer-is sampleReadAt says e))
+  -- a turn and the way out, by what the reader's function answered, r′, and what that means; the code stores a signed
+  -- value by its bits
+  module _ {A : Type 0} (means : A → At ℤ) {r r′ : A} (says : means r ≡ runAt p s at) (e : r ≡ r′) where
+    pub step : {z : ℤ} {q : Place} → means r′ ≡ gotAt z q → SFits w32 z → i < length l → Filling p s at₀ l₀ (set l i (toZ w32 (ofZ w32 z))) (i + 1) q
+    step m f h = rw (toZ-ofZ f) (filled h (answer-is means says e ∙ m))
 
-    pub cut : r ≡ Short → i < length l → shortAt ≡ runAt (many (length l₀) p) s at₀
-    cut e h = sym (next h ∙ many-short p s (take i l) at (length l₀ - (i + 1)) (answer-is sampleReadAt says e))
+    pub cut : means r′ ≡ shortAt → i < length l → shortAt ≡ runAt (many (length l₀) p) s at₀
+    cut m h = sym (next h ∙ many-short p s (take i l) at (length l₀ - (i + 1)) (answer-is means says e ∙ m))
 
   pub end : length l ≤ i → gotAt l at ≡ runAt (many (length l₀) p) s at₀
   end h =

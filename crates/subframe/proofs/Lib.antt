@@ -2,6 +2,7 @@
 pub mod SliceParts
 pub mod FilledSlices
 pub mod SampleReaders
+pub mod RiceWords
 pub mod Partitions
 pub mod ResidualShapes
 pub mod PredictionSums

@@ -70,6 +70,12 @@ folded-count k z r =
 remainderThen : ℕ → ℕ → Ask ℤ
 remainderThen k q = bits k >>= (λ r. done (unfolded (folded k q r)))
 
+-- by the zeros and the remainder that the definition reads
+pub rice-parts : (k : ℕ) (s : List ℕ) (at : Place) {q r : ℕ} {p next : Place} → runAt zeros s at ≡ gotAt q p → runAt (bits k) s p ≡ gotAt r next
+    → runAt (rice k) s at ≡ gotAt (unfolded (folded k q r)) next
+unfolding rice remainderThen
+rice-parts k s at {q} {p = p} high low = bind-got zeros s at (remainderThen k) high ∙ bind-done (bits k) (λ r. unfolded (folded k q r)) s p low
+
 module _ (k : ℕ) (s : List ℕ) (at : Place) (h : k ≤ 31) {u : Bits} (high : bitsAt u ≡ countedZeros (runAt zeros s at)) where
   pub quotient-short : u ≡ Short → shortAt ≡ runAt (rice k) s at
   unfolding rice remainderThen
@@ -90,10 +96,8 @@ module _ (k : ℕ) (s : List ℕ) (at : Place) (h : k ≤ 31) {u : Bits} (high :
       remainder-below = bits-below k s p (read-got k s p (omega arith) says f)
 
       pub rice-got : {n : ℕ} {z : ℤ} → n ≡ folded k q v → z ≡ unfolded n → SFits w32 z → gotAt (toZ w32 (ofZ w32 z)) next ≡ runAt (rice k) s at
-      unfolding rice remainderThen
       rice-got {n} {z} en ez fz =
           let got = unary-got s at high e in
-          let rest = read-got k s p (omega arith) says f in
           sym
-          (bind-got zeros s at (remainderThen k) (got .1) ∙ bind-done (bits k) (λ r. unfolded (folded k (got .0) r)) s p rest
+          (rice-parts k s at (got .1) (read-got k s p (omega arith) says f)
           ∙ ap (λ y. gotAt y next) (sym (toZ-ofZ fz ∙ ez ∙ ap unfolded (en ∙ ap (λ x. folded k x v) (got .2) ∙ folded-count k (got .0) v))))

@@ -1,11 +1,12 @@
 -- What the answers of the private functions mean in the definition, and what these functions ask of each other. Only
 -- contracts of private functions name it, so nobody has to believe it.
-use Prim.Native.Nat.{ℕ, _-_, _^_, _≤_}
+use Prim.Native.Nat.{ℕ, _+_, _-_, _*_, _^_, _≤_, _<_}
 use mathlib.Core.List.{List, _++_}
 use lib.IntN.{ℤ, pos}
 use lib.ListN.{length, take, drop, replicate}
+use Rattle.reading.specs.declared.Place.{Place}
 use Rattle.reading.specs.Readers.{Ask, done, stop, _>>=_}
-use Rattle.reading.specs.Places.{At, gotAt, shortAt}
+use Rattle.reading.specs.Places.{At, gotAt, shortAt, placeOf}
 use Rattle.error.specs.Numbers.{refusedBy}
 use Rattle.number.specs.Private.{Small}
 use Rattle.rfc9639.specs.declared.SubframeType.{SubframeType}
@@ -17,6 +18,8 @@ use Rattle.rfc9639.specs.Subframe.{lpcAfterShift}
 use Rattle.subframe.specs.declared.answers.Kind.{Kind}
 use Rattle.subframe.specs.declared.answers.SampleRead.{SampleRead}
 use Rattle.subframe.specs.declared.answers.SampleRead.the-variants.{Value, Short}
+use Rattle.subframe.specs.declared.answers.BitOffset.{BitOffset}
+use Rattle.subframe.specs.declared.answers.RiceRead.{RiceRead}
 use Rattle.subframe.specs.declared.answers.WastedRead.{WastedRead}
 use Rattle.subframe.specs.declared.answers.SubframeHeaderRead.{SubframeHeaderRead}
 use Rattle.subframe.specs.declared.answers.QuantizerRead.{QuantizerRead}
@@ -63,6 +66,20 @@ withZeros n xs = xs ++ replicate (n - length xs) (pos 0)
 abbrev pub sampleReadAt : SampleRead → At ℤ
 sampleReadAt (Value x p) = gotAt x p
 sampleReadAt Short = shortAt
+
+-- ---- one residual
+
+abbrev pub placeAfter : BitOffset → Place
+placeAfter o = placeOf (8 * o .byte + o .bits)
+
+abbrev pub riceReadAt : RiceRead → At ℤ
+riceReadAt (RiceRead.Value x o) = gotAt x (placeAfter o)
+riceReadAt RiceRead.Short = shortAt
+
+-- the next code starts fewer bits after the byte than a word has
+abbrev pub StartsInWord : RiceRead → Type 0
+StartsInWord (RiceRead.Value x o) = o .bits < 64
+StartsInWord RiceRead.Short = Unit {0}
 
 -- ---- prediction
 

@@ -1,20 +1,22 @@
 // Samples stored as they are, and the coded residual (RFC 9639 sections 9.2.4 and 9.2.7). Each decoder fills the slice
 // that it is lent and answers what the definition reads. On a refusal the slice may hold anything.
 use super::Decoded;
+use super::answers::BitOffset;
+use super::answers::RiceRead;
 use super::answers::SampleRead;
 use error::Refusal;
 use input::Bits;
 use reading::Place;
 ghost use mathlib.Core.Path.{_≡_};
 ghost use mathlib.Core.List.{_∷_};
-ghost use Prim.Native.Nat.{_+_, _-_, _*_, _%_, _^_, _≤_, _<_};
+ghost use Prim.Native.Nat.{_+_, _-_, _*_, _/_, _%_, _^_, _≤_, _<_};
 ghost use lib.ListN.{length, replicate};
 ghost use Rattle.reading.specs.Readers.{many, each};
 ghost use Rattle.reading.specs.Places.{runAt};
 ghost use Rattle.rfc9639.specs.Integers.{signedBits};
-ghost use Rattle.rfc9639.specs.Residual.{folded as foldedOf, rice, partition, residual};
+ghost use Rattle.rfc9639.specs.Residual.{folded as foldedOf, unfolded, rice, partition, residual};
 ghost use Rattle.subframe.specs.Answers.{samplesAt};
-ghost use Rattle.subframe.specs.Private.{sampleReadAt};
+ghost use Rattle.subframe.specs.Private.{sampleReadAt, placeAfter, riceReadAt, StartsInWord};
 
 pub fn read_sample(s: &[u8], at: Place, width: u32) -> SampleRead
     requires { ⌜ width ≤ 32 ⌝ }
@@ -61,8 +63,8 @@ fn folded(q: u64, r: u64, k: u32) -> u32
     (((q << k) + r) % 0x1_0000_0000) as u32
 }
 
-// One residual of Rice parameter k (RFC 9639 section 9.2.7.2).
-fn read_rice(s: &[u8], at: Place, k: u32) -> SampleRead
+// One residual of Rice parameter k (RFC 9639 section 9.2.7.2), wherever its code ends.
+fn read_long_rice(s: &[u8], at: Place, k: u32) -> SampleRead
     requires { ⌜ k ≤ 31 ⌝ }
     ensures { λ r. ⌜ sampleReadAt r ≡ runAt (rice k) (now (s .entry)) at ⌝ }
 {
@@ -77,6 +79,66 @@ fn read_rice(s: &[u8], at: Place, k: u32) -> SampleRead
     SampleRead::Value(signed::unfold(folded(q, r, k)), next)
 }
 
+fn place_at(at: BitOffset) -> Place
+    requires { ⌜ (at .byte < 2 ^ 63) × (at .bits < 64) ⌝ }
+    ensures { λ r. ⌜ r ≡ placeAfter at ⌝ }
+{
+    Place {
+        byte: at.byte + at.bits / 8,
+        bit: at.bits % 8,
+    }
+}
+
+// The same from the place so many bits after a byte.
+fn read_any_rice(s: &[u8], at: BitOffset, k: u32) -> RiceRead
+    requires { ⌜ (k ≤ 31) × (at .byte ≤ length (now s)) × (at .bits < 64) ⌝ }
+    ensures { λ r. ⌜ (riceReadAt r ≡ runAt (rice k) (now (s .entry)) (placeAfter at)) × StartsInWord r ⌝ }
+{
+    let read = read_long_rice(s, place_at(at), k);
+    match read {
+        SampleRead::Value(x, p) => {
+            let byte = p.byte;
+            let bits = p.bit;
+            RiceRead::Value(x, BitOffset { byte, bits })
+        }
+        SampleRead::Short => RiceRead::Short,
+    }
+}
+
+// The residual whose code's first 1 bit is bit `top` of a word, where bit 63 is the first: 63 - top zeros come before
+// it, and the k bits of the remainder after it.
+fn code_at_top(w: u64, top: u32, k: u32) -> i32
+    requires { ⌜ (k ≤ 31) × (k ≤ top) × (top < 64) × (w / 2 ^ top ≡ 1) ⌝ }
+    ensures { λ r. ⌜ r ≡ unfolded (foldedOf k (63 - top) (w / 2 ^ (top - k) % 2 ^ k)) ⌝ }
+{
+    let x = w >> (top - k);
+    signed::unfold(folded((63 - top) as u64, x - (1u64 << k), k))
+}
+
+// The same where the code ends in the word from the byte on, as nearly every code does.
+fn read_rice(s: &[u8], at: BitOffset, k: u32) -> RiceRead
+    requires { ⌜ (k ≤ 31) × (at .byte ≤ length (now s)) × (at .bits < 64) ⌝ }
+    ensures { λ r. ⌜ (riceReadAt r ≡ runAt (rice k) (now (s .entry)) (placeAfter at)) × StartsInWord r ⌝ }
+{
+    let byte = at.byte;
+    let bits = at.bits;
+    let w = input::word_from(s, byte) << bits;
+    if w == 0 {
+        return read_any_rice(s, at, k);
+    }
+    let top = 63 - u64::leading_zeros(w);
+    if top as usize <= bits + k as usize {
+        return read_any_rice(s, at, k);
+    }
+    RiceRead::Value(
+        code_at_top(w, top, k),
+        BitOffset {
+            byte: byte + bits / 8,
+            bits: (bits % 8 + k as usize + 64) - top as usize,
+        },
+    )
+}
+
 // As many residuals as `out` has.
 fn decode_rice(s: &[u8], at: Place, k: u32, out: &mut [i32]) -> Decoded
     requires { ⌜ k ≤ 31 ⌝ }
@@ -85,22 +147,24 @@ fn decode_rice(s: &[u8], at: Place, k: u32, out: &mut [i32]) -> Decoded
     if !reading::is_inside(s, at) {
         return Decoded::Refused(Refusal::CutShort);
     }
-    let mut p = at;
+    let byte = at.byte;
+    let bits = at.bit;
+    let mut p = BitOffset { byte, bits };
     let mut i = 0;
     while i < out.len() {
         let read = read_rice(s, p, k);
         match read {
-            SampleRead::Value(x, q) => {
+            RiceRead::Value(x, q) => {
                 out[i] = x;
                 p = q;
                 i += 1;
             }
-            SampleRead::Short => {
+            RiceRead::Short => {
                 return Decoded::Refused(Refusal::CutShort);
             }
         }
     }
-    Decoded::Done(p)
+    Decoded::Done(place_at(p))
 }
 
 // A partition (RFC 9639 section 9.2.7). The last parameter means residuals stored as they are, which is not supported.

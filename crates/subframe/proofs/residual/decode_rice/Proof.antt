@@ -1,21 +1,24 @@
 -- `decode_rice`: each turn stores one residual (Filling). Assumes nothing.
-use Prim.Native.Nat.{_-_}
+use Prim.Native.Nat.{_-_, _<_}
 use native.Mathlib.Omega.{arith}
-use mathlib.Core.Path.{sym}
+use mathlib.Core.Path.{refl, ap, sym, _∙_, subst}
 use borrow.Author.Needs.{needs}
 use borrow.Author.Tests.{not-true, not-false}
 use lib.ListN.{length}
-use Rattle.reading.proofs.ByteRuns.{inside-in, runAt-out}
+use Rattle.reading.specs.Places.{gotAt}
+use Rattle.reading.proofs.ByteRuns.{inside-in, position-place, runAt-out}
 use Rattle.rfc9639.specs.Residual.{rice}
+use Rattle.subframe.specs.Private.{placeAfter, riceReadAt, StartsInWord}
 use Rattle.subframe.proofs.FilledSlices.{Filling, begin, step, cut, end}
+use Rattle.subframe.proofs.RiceWords.{byte-within}
 use Rattle.subframe.proofs.residual.decode_rice.Statement.{statement}
 use Rattle.subframe.proofs.residual.decode_rice.Tie as tie
 
 abbrev Inv-loop : tie.InvT-loop
-Inv-loop s k out₀ p₀ i₀ out p i = Filling (rice k) s p₀ out₀ out i p
+Inv-loop s k out₀ byte bits p₀ i₀ out p i = Filling (rice k) s (record { byte = byte; bit = bits }) out₀ out i (placeAfter p) × (p .bits < 64)
 
 abbrev μ-loop : tie.MeasureT-loop
-μ-loop s k out₀ p₀ i₀ out p i = length out₀ - i
+μ-loop s k out₀ byte bits p₀ i₀ out p i = length out₀ - i
 
 is-inside-requires : tie.Need-is-inside-requires Inv-loop μ-loop
 is-inside-requires c κs = search needs
@@ -24,10 +27,13 @@ returns : tie.Need-returns Inv-loop μ-loop
 returns c = sym (runAt-out _ _ _ (cc (not-true (c .before .is-inside .result) (c .if1 .taken))))
 
 loop-holds : tie.Need-loop-holds Inv-loop μ-loop
-loop-holds c = begin _ _ (inside-in _ _ (cc (not-false (c .before .is-inside .result) (c .if1 .left))))
+loop-holds c =
+    let a = c .before .before .before .args in
+    let here = inside-in (a .s .now) (a .at) (cc (not-false (c .before .is-inside .result) (c .if1 .left))) in
+    (rw (position-place (a .at) (here .bit)) (begin _ _ here), omega (arith, here .bit))
 
 read-rice-requires : tie.Need-read-rice-requires Inv-loop μ-loop
-read-rice-requires c κs = search needs
+read-rice-requires c κs = let inv = c .before .loop .inv in (omega arith, byte-within _ (inv .0 .place), inv .1)
 
 enum-known-read : tie.Need-enum-known-read Inv-loop μ-loop
 enum-known-read c = search needs
@@ -46,8 +52,10 @@ loop-less c = search needs
 
 loop-again : tie.Need-loop-again Inv-loop μ-loop
 loop-again c =
-    let b = c .before .before .before in
-    step (b .before .before .loop .inv) (b .read-rice .ensures) (c .before .read .given .1) (record { sfits = search needs }) (omega arith)
+    let b = c .before .before .before in let e = c .before .read .given .1 in (
+      step (b .before .before .loop .inv .0) riceReadAt (b .read-rice .ensures .0) e refl (record { sfits = search needs }) (omega arith),
+      subst StartsInWord e (b .read-rice .ensures .1),
+    )
 
 enum-told : tie.Need-enum-told Inv-loop μ-loop
 enum-told c = search needs
@@ -56,13 +64,17 @@ same-length : tie.Need-same-length Inv-loop μ-loop
 same-length c = search needs
 
 returns-2 : tie.Need-returns-2 Inv-loop μ-loop
-returns-2 c = let b = c .before .before in cut (b .before .before .loop .inv) (b .read-rice .ensures) (c .enum-told .given .1) (omega arith)
+returns-2 c =
+    let b = c .before .before in cut (b .before .before .loop .inv .0) riceReadAt (b .read-rice .ensures .0) (c .enum-told .given .1) refl (omega arith)
+
+place-at-requires : tie.Need-place-at-requires Inv-loop μ-loop
+place-at-requires c κs = let inv = c .before .loop .inv in (omega (arith, byte-within _ (inv .0 .place)), inv .1)
 
 same-length-2 : tie.Need-same-length-2 Inv-loop μ-loop
 same-length-2 c = search needs
 
 returns-3 : tie.Need-returns-3 Inv-loop μ-loop
-returns-3 c = end (c .before .loop .inv) (omega arith)
+returns-3 c = ap (gotAt (c .before .before .loop .out)) (c .place-at .ensures) ∙ end (c .before .before .loop .inv .0) (omega arith)
 
 pub decode-rice-spec : {M : Type 1} → statement M
 decode-rice-spec =
@@ -83,5 +95,6 @@ decode-rice-spec =
     enum-told
     same-length
     returns-2
+    place-at-requires
     same-length-2
     returns-3)

@@ -1,12 +1,13 @@
 -- `decode_verbatim`: each turn stores one sample (Filling). Assumes nothing.
 use Prim.Native.Nat.{_-_}
 use native.Mathlib.Omega.{arith}
-use mathlib.Core.Path.{sym}
+use mathlib.Core.Path.{refl, sym}
 use borrow.Author.Needs.{needs}
 use borrow.Author.Tests.{not-true, not-false}
 use lib.ListN.{length}
 use Rattle.reading.proofs.ByteRuns.{inside-in, runAt-out}
 use Rattle.rfc9639.specs.Integers.{signedBits}
+use Rattle.subframe.specs.Private.{sampleReadAt}
 use Rattle.subframe.proofs.FilledSlices.{Filling, begin, step, cut, end}
 use Rattle.subframe.proofs.residual.decode_verbatim.Statement.{statement}
 use Rattle.subframe.proofs.residual.decode_verbatim.Tie as tie
@@ -47,7 +48,7 @@ loop-less c = search needs
 loop-again : tie.Need-loop-again Inv-loop μ-loop
 loop-again c =
     let b = c .before .before .before in
-    step (b .before .before .loop .inv) (b .read-sample .ensures) (c .before .read .given .1) (record { sfits = search needs }) (omega arith)
+    step (b .before .before .loop .inv) sampleReadAt (b .read-sample .ensures) (c .before .read .given .1) refl (record { sfits = search needs }) (omega arith)
 
 enum-told : tie.Need-enum-told Inv-loop μ-loop
 enum-told c = search needs
@@ -56,7 +57,7 @@ same-length : tie.Need-same-length Inv-loop μ-loop
 same-length c = search needs
 
 returns-2 : tie.Need-returns-2 Inv-loop μ-loop
-returns-2 c = let b = c .before .before in cut (b .before .before .loop .inv) (b .read-sample .ensures) (c .enum-told .given .1) (omega arith)
+returns-2 c = let b = c .before .before in cut (b .before .before .loop .inv) sampleReadAt (b .read-sample .ensures) (c .enum-told .given .1) refl (omega arith)
 
 same-length-2 : tie.Need-same-length-2 Inv-loop μ-loop
 same-length-2 c = search needs
