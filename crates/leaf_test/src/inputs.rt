@@ -7,9 +7,12 @@ use crate::show::part;
 use crate::show::show_bytes;
 use crate::show::show_number;
 use crate::show::show_place;
+use crate::show::text;
 use input::Bits;
 use input::read_bits;
 use input::read_unary;
+use input::word_from;
+use libc::STDOUT_FILENO;
 use reading::Place;
 
 // A step is a number of bits, or a letter: b for one bit, u for `read_unary`.
@@ -100,4 +103,29 @@ pub fn inputs() {
     reads(data, 37, 47, ns, 68, 69, 0, 8);
     reads(data, 37, 47, ns, 69, 70, 9, 8);
     reads(data, 37, 47, ns, 70, 71, 11, 0);
+}
+
+// The word from a byte on, in hexadecimal.
+fn word(data: &[u8], to: usize, byte: usize) {
+    let s = part(data, 0, to);
+    text(b"word_from ");
+    show_bytes(s);
+    show_number(b' ', byte as u64);
+    equals();
+    mark(b' ');
+    io::print_hex(STDOUT_FILENO, word_from(s, byte), 16);
+    mark(b'\n');
+}
+
+// No bytes, too few, just enough, one more; the last byte that has a word, the next, and the largest number.
+pub fn words() {
+    let data: &[u8] = b"\x01\x23\x45\x67\x89\xab\xcd\xef\x80";
+    word(data, 0, 0);
+    word(data, 7, 0);
+    word(data, 8, 0);
+    word(data, 8, 1);
+    word(data, 9, 0);
+    word(data, 9, 1);
+    word(data, 9, 2);
+    word(data, 9, 18446744073709551615);
 }

@@ -14,6 +14,7 @@ fn main() {
     crcs::sums();
     crcs::lengths();
     inputs::inputs();
+    inputs::words();
     runs::runs();
     runs::seeded();
     numbers::claxon();

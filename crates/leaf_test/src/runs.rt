@@ -1,8 +1,8 @@
 // The readers of words. First `read_unary` on runs of zeros of each length, from each bit of a byte. The bits before
 // the place are ones, and so are those after the 1 bit that ends the run. Each run is read three times: with bytes
 // after it, at the end of the input, and without the byte of its 1 bit, where the input is short. A line has the
-// lengths, and how many runs were read right. Then both readers against readers that take one bit a turn, on a million
-// seeded inputs.
+// lengths, and how many runs were read right. Then both readers, and the word from a byte on, against readers that take
+// one bit a turn, on a million seeded inputs.
 use crate::bit_by_bit;
 use crate::show::equals;
 use crate::show::mark;
@@ -12,6 +12,7 @@ use crate::show::text;
 use input::Bits;
 use input::read_bits;
 use input::read_unary;
+use input::word_from;
 use reading::Place;
 use std::num::wrapping_add_u64;
 ghost use Prim.Native.Nat.{_^_, _<_};
@@ -128,11 +129,21 @@ fn is_long(r: Bits) -> bool {
     }
 }
 
+// The 64 bits from a byte on, one by one, or 0 where the input ends before.
+fn word_one_by_one(s: &[u8], byte: usize) -> u64 {
+    match bit_by_bit::bits_one_by_one(s, Place { byte, bit: 0 }, 64) {
+        Bits::Value(v, _p) => v,
+        Bits::Short => 0,
+    }
+}
+
 fn compared(s: &[u8], at: Place, n: u32, t: SeededCounts) -> SeededCounts {
     let zeros = read_unary(s, at);
     let number = read_bits(s, at, n);
+    let byte = at.byte;
     let same = is_same(zeros, bit_by_bit::unary_one_by_one(s, at))
-        && is_same(number, bit_by_bit::bits_one_by_one(s, at, n));
+        && is_same(number, bit_by_bit::bits_one_by_one(s, at, n))
+        && word_from(s, byte) == word_one_by_one(s, byte);
     SeededCounts {
         differ: wrapping_add_u64(t.differ, one_if(!same)),
         ended: wrapping_add_u64(t.ended, one_if(!is_short(zeros))),
