@@ -69,6 +69,7 @@ sampleReadAt Short = shortAt
 
 -- ---- one residual
 
+-- the place so many bits after a byte
 abbrev pub placeAfter : BitOffset → Place
 placeAfter o = placeOf (8 * o .byte + o .bits)
 

@@ -174,7 +174,9 @@ fn decode_after_header(
     let Decoded::Done(p) = decoded else {
         return decoded;
     };
-    shift_all(out, wasted);
+    if 0 < wasted {
+        shift_all(out, wasted);
+    }
     Decoded::Done(p)
 }
 
