@@ -5,6 +5,7 @@ pub mod SampleReaders
 pub mod Partitions
 pub mod ResidualShapes
 pub mod PredictionSums
+pub mod FixedSums
 pub mod PredictionInPlace
 pub mod HeaderFields
 pub mod HeaderBounds
