@@ -1,11 +1,10 @@
 -- Sums of products: at most 32 coefficients of 16 bits with samples of 33 are exact at 64 bits. Assumes nothing.
-use Prim.Native.Nat.{ℕ, zero, suc, _+_, _*_, _^_, _≤_, _<_}
+use Prim.Native.Nat.{ℕ, zero, suc, _+_, _-_, _*_, _^_, _≤_, _<_}
 use native.Mathlib.Nat.{le-of-lt, mul-le-mul}
-use native.Mathlib.Numerals.{add-one}
 use native.Mathlib.Omega.{arith}
-use mathlib.Core.Path.{_≡_, refl, ap, ap₂, sym, _∙_, subst}
+use mathlib.Core.Path.{_≡_, ap, ap₂, sym, _∙_, subst}
 use mathlib.Core.List.{List, [], _∷_}
-use lib.IntN.{ℤ, pos, natAbs, _+ℤ_, _*ℤ_}
+use lib.IntN.{ℤ, pos, natAbs, _+ℤ_, _*ℤ_, +ℤ-idl, +ℤ-assoc, +ℤ-comm}
 use lib.ListN.{length, getD, drop, drop-of-length-le}
 use lib.Seq.{drop-cons}
 use mir.Syntax.{w32, w64}
@@ -55,34 +54,56 @@ small-at b [] i h s = absurd (omega arith)
 small-at b (z ∷ l) zero h s = s .0
 small-at b (z ∷ l) (suc i) h s = small-at b l i (omega arith) (s .1)
 
--- i products are added up in acc
-pub record DotSoFar (cs xs : List ℤ) (acc i : ℕ) : Type 0 where
-  pub within : i ≤ length cs
-  pub bound : natAbs (toZ w64 acc) ≤ i * 2 ^ 47
-  pub same : dot (pos 0) cs xs ≡ dot (toZ w64 acc) (drop i cs) (drop i xs)
+-- a sum is onto any number
+dot-onto : (a : ℤ) (cs xs : List ℤ) → dot a cs xs ≡ dot (pos 0) cs xs +ℤ a
+unfolding dot
+dot-onto a [] xs = sym (+ℤ-idl a)
+dot-onto a (c ∷ cs) [] = sym (+ℤ-idl a)
+dot-onto a (c ∷ cs) (x ∷ xs) =
+    dot-onto (a +ℤ c *ℤ x) cs xs ∙ ap (λ (z : ℤ). d +ℤ z) (+ℤ-comm a (c *ℤ x)) ∙ sym (+ℤ-assoc d (c *ℤ x) a)
+    ∙ ap (λ (z : ℤ). d +ℤ z +ℤ a) (sym (+ℤ-idl (c *ℤ x))) ∙ ap (λ (z : ℤ). z +ℤ a) (sym (dot-onto (pos 0 +ℤ c *ℤ x) cs xs))
+  where
+    d : ℤ
+    d = dot (pos 0) cs xs
 
-pub begin : (cs xs : List ℤ) → DotSoFar cs xs 0 0
-begin cs xs = record { within = omega arith; bound = omega arith; same = refl }
+-- the products from j on are added up in acc
+pub record DotSoFar (cs xs : List ℤ) (acc j : ℕ) : Type 0 where
+  pub within : j ≤ length cs
+  pub bound : natAbs (toZ w64 acc) ≤ (length cs - j) * 2 ^ 47
+  pub same : toZ w64 acc ≡ dot (pos 0) (drop j cs) (drop j xs)
 
-module _ {cs xs : List ℤ} {acc i : ℕ} (inv : DotSoFar cs xs acc i) (few : length cs ≤ 32) where
+pub begin : (cs xs : List ℤ) (j : ℕ) → length cs ≡ j → DotSoFar cs xs 0 j
+unfolding dot
+begin cs xs j e = record {
+  within = omega arith;
+  bound = omega arith;
+  same = ap (λ (l : List ℤ). dot (pos 0) l (drop j xs)) (sym (drop-of-length-le cs (let h : length cs ≤ j = omega arith in h)));
+}
+
+module _ {cs xs : List ℤ} {acc j : ℕ} (inv : DotSoFar cs xs acc j) (few : length cs ≤ 32) where
   pub room : natAbs (toZ w64 acc) < 2 ^ 62
-  room = omega (arith, inv .bound, inv .within)
+  room = omega (arith, inv .bound)
 
-  module _ (long : length cs ≤ length xs) (small : Small (2 ^ 15) cs) (l : i < length cs) where
+  module _ (long : length cs ≤ length xs) (small : Small (2 ^ 15) cs) (i : ℕ) (next : j ≡ suc i) where
     pub coefficient : natAbs (getD cs i (pos 0)) < 2 ^ 15
-    coefficient = small-at (2 ^ 15) cs i l small
+    coefficient = small-at (2 ^ 15) cs i (omega (arith, inv .within)) small
 
-    pub step : (r : ℤ) → r ≡ toZ w64 acc +ℤ getD cs i (pos 0) *ℤ getD xs i (pos 0) → Fits 33 (getD xs i (pos 0)) → SFits w64 r → DotSoFar cs xs (ofZ w64 r) (i + 1)
+    pub step : (r : ℤ) → r ≡ toZ w64 acc +ℤ getD cs i (pos 0) *ℤ getD xs i (pos 0) → Fits 33 (getD xs i (pos 0)) → SFits w64 r → DotSoFar cs xs (ofZ w64 r) i
     unfolding dot
     step r e f g = record {
-      within = omega arith;
-      bound = rw (toZ-ofZ g, e) (omega (arith, abs-mul-add (getD cs i (pos 0)) (getD xs i (pos 0)) coefficient f (toZ w64 acc), inv .bound));
+      within = omega (arith, inv .within);
+      bound =
+          rw (toZ-ofZ g, e) (omega (arith, abs-mul-add (getD cs i (pos 0)) (getD xs i (pos 0)) coefficient f (toZ w64 acc), inv .bound, inv .within));
       same =
-          inv .same ∙ ap₂ (dot (toZ w64 acc)) (drop-cons cs i (pos 0) l) (drop-cons xs i (pos 0) (omega arith))
-          ∙ ap (λ a. dot a (drop (suc i) cs) (drop (suc i) xs)) (sym e ∙ sym (toZ-ofZ g))
-          ∙ ap (λ n. dot (toZ w64 (ofZ w64 r)) (drop n cs) (drop n xs)) (sym (add-one i));
+          toZ-ofZ g ∙ e
+          ∙ ap (λ (z : ℤ). z +ℤ product) (inv .same ∙ ap (λ n. dot (pos 0) (drop n cs) (drop n xs)) next)
+          ∙ ap (λ (z : ℤ). dot (pos 0) (drop (suc i) cs) (drop (suc i) xs) +ℤ z) (sym (+ℤ-idl product))
+          ∙ sym (dot-onto (pos 0 +ℤ product) (drop (suc i) cs) (drop (suc i) xs))
+          ∙ sym (ap₂ (dot (pos 0)) (drop-cons cs i (pos 0) (omega (arith, inv .within))) (drop-cons xs i (pos 0) (omega (arith, inv .within))));
     }
+      where
+        product : ℤ
+        product = getD cs i (pos 0) *ℤ getD xs i (pos 0)
 
-  pub end : length cs ≤ i → toZ w64 acc ≡ dot (pos 0) cs xs
-  unfolding dot
-  end h = sym (inv .same ∙ ap (λ (l : List ℤ). dot (toZ w64 acc) l (drop i xs)) (drop-of-length-le cs h))
+  pub end : j ≤ 0 → toZ w64 acc ≡ dot (pos 0) cs xs
+  end h = inv .same ∙ ap (λ n. dot (pos 0) (drop n cs) (drop n xs)) (let e : j ≡ 0 = omega arith in e)

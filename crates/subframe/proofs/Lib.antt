@@ -6,6 +6,7 @@ pub mod RiceWords
 pub mod Partitions
 pub mod ResidualShapes
 pub mod PredictionSums
+pub mod FixedSums
 pub mod PredictionInPlace
 pub mod HeaderFields
 pub mod HeaderBounds

@@ -9,20 +9,20 @@ use mathlib.Core.List.{List, [], _∷_, _++_, reverse, reverse-cons, reverse-app
 use borrow.Author.Tests.{ltb-true, ltb-false}
 use borrow.Rule.Slice.PartMut.{mid-len}
 use lib.Dec.{ltb, lit<}
-use lib.IntN.{ℤ, pos, natAbs, _+ℤ_, _*ℤ_, +ℤ-idr, zero-*ℤ}
-use lib.ListN.{length, getD, take, drop, set, replicate, length-append, length-replicate, length-reverse, List·getD-append}
-use lib.Seq.{length-take-le, take-add, getD-append-add, set-at, take-suc, take-all, append-snoc}
+use lib.IntN.{ℤ, pos, natAbs, _+ℤ_, _*ℤ_}
+use lib.ListN.{length, getD, take, drop, set, replicate, length-append, length-reverse, List·getD-append}
+use lib.Seq.{length-take-le, take-add, take-at, getD-take, getD-append-add, set-at, take-suc, take-all, append-snoc}
 use mir.Syntax.{w32, w64}
 use mir.Val.{SFits, toZ, ofZ}
 use mir.Facts.{toZ-ofZ}
 use Rattle.number.specs.Private.{Small}
 use Rattle.number.proofs.ProductSums.{DotSoFar, room, coefficient, step, sample-fits-33}
 use Rattle.rfc9639.specs.Prediction.{dot, fixedCoefficients}
-use Rattle.subframe.specs.Private.{withZeros, Predictable}
+use Rattle.subframe.specs.Private.{withZeros, Predictable, predictedInPlace, FixedOrder}
 
 -- ---- the latest sample first
 
-reverse-at : (l : List ℤ) (j : ℕ) → j < length l → getD (reverse l) j (pos 0) ≡ getD l (length l - 1 - j) (pos 0)
+pub reverse-at : (l : List ℤ) (j : ℕ) → j < length l → getD (reverse l) j (pos 0) ≡ getD l (length l - 1 - j) (pos 0)
 reverse-at [] j h = absurd (omega arith)
 reverse-at (x ∷ l) j h = ap (λ (r : List ℤ). getD r j (pos 0)) (reverse-cons x l) ∙ go (λ k. reverse-at l j k) (ltb j (length l)) refl
   where
@@ -47,29 +47,8 @@ dot-front acc [] xs ys h = refl
 dot-front acc (c ∷ cs) [] ys h = absurd (omega arith)
 dot-front acc (c ∷ cs) (x ∷ xs) ys h = dot-front (acc +ℤ c *ℤ x) cs xs ys (omega arith)
 
-dot-zeros : (acc : ℤ) (n : ℕ) (xs : List ℤ) → dot acc (replicate n (pos 0)) xs ≡ acc
-unfolding dot
-dot-zeros acc zero xs = refl
-dot-zeros acc (suc n) [] = refl
-dot-zeros acc (suc n) (x ∷ xs) = dot-zeros (acc +ℤ pos 0 *ℤ x) n xs ∙ ap (λ (z : ℤ). acc +ℤ z) (zero-*ℤ x) ∙ +ℤ-idr acc
-
--- zeros after the coefficients add nothing
-dot-padded : (acc : ℤ) (n : ℕ) (cs xs : List ℤ) → dot acc (cs ++ replicate n (pos 0)) xs ≡ dot acc cs xs
-unfolding dot
-dot-padded acc n [] xs = dot-zeros acc n xs
-dot-padded acc n (c ∷ cs) [] = refl
-dot-padded acc n (c ∷ cs) (x ∷ xs) = dot-padded (acc +ℤ c *ℤ x) n cs xs
-
-small-zeros : (b n : ℕ) → 0 < b → Small b (replicate n (pos 0))
-small-zeros b zero h = tt
-small-zeros b (suc n) h = (h, small-zeros b n h)
-
-small-padded : (b n : ℕ) (cs : List ℤ) → 0 < b → Small b cs → Small b (cs ++ replicate n (pos 0))
-small-padded b n [] h s = small-zeros b n h
-small-padded b n (c ∷ cs) h s = (s .0, small-padded b n cs h (s .1))
-
 -- the latest m of i samples are enough for m coefficients
-dot-latest : (cs l : List ℤ) (m i : ℕ) → length cs ≤ m → m ≤ i → i ≤ length l
+pub dot-latest : (cs l : List ℤ) (m i : ℕ) → length cs ≤ m → m ≤ i → i ≤ length l
     → dot (pos 0) cs (reverse (take (i - (i - m)) (drop (i - m) l))) ≡ dot (pos 0) cs (reverse (take i l))
 dot-latest cs l m i h k g =
     sym (dot-front (pos 0) cs (reverse late) (reverse early) (omega (arith, length-reverse late, mid-len (i - m) i l g)))
@@ -83,24 +62,28 @@ dot-latest cs l m i h k g =
     late : List ℤ
     late = take (i - (i - m)) (drop (i - m) l)
 
--- ---- a loop over the products; the code passes a signed value by its bits
+-- ---- a loop over the products of the first `order` taps; the code passes a signed value by its bits
 
-module _ (cs before : List ℤ) {acc j : ℕ} (inv : DotSoFar cs (reverse before) acc j) (fit : Predictable 32 cs before) (l : j < length cs)
-    (c : SFits w32 (getD cs j (pos 0))) where
-  enough : length cs ≤ length (reverse before)
+module _ (taps before : List ℤ) {order acc j : ℕ} (inv : DotSoFar (take order taps) (reverse before) acc j) (some : order ≤ length taps)
+    (fit : Predictable 32 (take order taps) before) (i : ℕ) (next : j ≡ suc i) (c : SFits w32 (getD taps i (pos 0))) where
+  enough : length (take order taps) ≤ length (reverse before)
   enough = omega (arith, length-reverse before)
 
-  pub mul-add-asks : (natAbs (toZ w64 acc) < 2 ^ 62) × (natAbs (toZ w32 (ofZ w32 (getD cs j (pos 0)))) < 2 ^ 15)
-  mul-add-asks = (room inv (fit .0), rw (toZ-ofZ c) (coefficient inv (fit .0) enough (fit .2) l))
+  tap : getD (take order taps) i (pos 0) ≡ getD taps i (pos 0)
+  tap = getD-take order taps i (pos 0) (omega (arith, inv .within, length-take-le order taps some))
 
-  pub turn : (k : ℕ) → k ≡ length before - 1 - j → SFits w32 (getD before k (pos 0)) → (r : ℤ)
-      → r ≡ toZ w64 acc +ℤ toZ w32 (ofZ w32 (getD cs j (pos 0))) *ℤ toZ w32 (ofZ w32 (getD before k (pos 0))) → SFits w64 r
-      → DotSoFar cs (reverse before) (ofZ w64 r) (j + 1)
+  pub mul-add-asks : (natAbs (toZ w64 acc) < 2 ^ 62) × (natAbs (toZ w32 (ofZ w32 (getD taps i (pos 0)))) < 2 ^ 15)
+  mul-add-asks = (room inv (fit .0), rw (toZ-ofZ c, ← tap) (coefficient inv (fit .0) enough (fit .2) i next))
+
+  pub turn : (k : ℕ) → k ≡ length before - 1 - i → SFits w32 (getD before k (pos 0)) → (r : ℤ)
+      → r ≡ toZ w64 acc +ℤ toZ w32 (ofZ w32 (getD taps i (pos 0))) *ℤ toZ w32 (ofZ w32 (getD before k (pos 0))) → SFits w64 r
+      → DotSoFar (take order taps) (reverse before) (ofZ w64 r) i
   turn k e f r h g =
-      step inv (fit .0) enough (fit .2) l r (h ∙ ap₂ (λ (a b : ℤ). toZ w64 acc +ℤ a *ℤ b) (toZ-ofZ c) (toZ-ofZ f ∙ sym there)) (rw there (sample-fits-33 f)) g
+      step inv (fit .0) enough (fit .2) i next r
+      (h ∙ ap₂ (λ (a b : ℤ). toZ w64 acc +ℤ a *ℤ b) (toZ-ofZ c ∙ sym tap) (toZ-ofZ f ∙ sym there)) (rw there (sample-fits-33 f)) g
     where
-      there : getD (reverse before) j (pos 0) ≡ getD before k (pos 0)
-      there = reverse-at before j (omega arith) ∙ ap (λ n. getD before n (pos 0)) (sym e)
+      there : getD (reverse before) i (pos 0) ≡ getD before k (pos 0)
+      there = reverse-at before i (omega (arith, inv .within)) ∙ ap (λ n. getD before n (pos 0)) (sym e)
 
 -- ---- the coefficients padded with zeros, of which the first j are stored
 
@@ -129,20 +112,29 @@ module _ {n : ℕ} {cs l : List ℤ} {j : ℕ} (inv : Padding n cs l j) where
   pad-end h =
       inv .same ∙ ap₂ (λ (t : List ℤ) m. t ++ replicate m (pos 0)) (take-all j cs h) (let e : n - j ≡ n - length cs = omega (arith, inv .within) in e)
 
--- m taps and the latest m of i samples give the coefficients' sum
-module _ (m : ℕ) (cs taps l : List ℤ) (i : ℕ) (few : length cs ≤ m) (is : taps ≡ withZeros m cs) (h : m ≤ i) (g : i ≤ length l) where
-  taps-length : length taps ≡ m
-  taps-length =
-      ap length is ∙ length-append cs (replicate (m - length cs) (pos 0)) ∙ ap (λ n. length cs + n) (length-replicate (m - length cs) (pos 0))
-      ∙ (let e : length cs + (m - length cs) ≡ m = omega arith in e)
+-- the coefficients are the first taps
+module _ (cs : List ℤ) {taps : List ℤ} {n : ℕ} (is : taps ≡ withZeros 32 cs) (long : length cs ≡ n) where
+  first-taps : take n taps ≡ cs
+  first-taps = ap (take n) is ∙ take-at cs (replicate (32 - length cs) (pos 0)) n long
 
-  pub taps-ask : Small (2 ^ 15) cs → (length taps ≡ m) × (m ≤ length (take (i - (i - m)) (drop (i - m) l))) × Small (2 ^ 15) taps
-  taps-ask s = (taps-length, omega (arith, mid-len (i - m) i l g), rw is (small-padded (2 ^ 15) (m - length cs) cs (lit< tt) s))
+  pub taps-ask : (block : List ℤ) → Predictable 32 cs block → (n ≤ length taps) × Predictable 32 (take n taps) block
+  taps-ask block fit = (rw is (omega (arith, length-append cs (replicate (32 - length cs) (pos 0)))), rw first-taps fit)
 
-  pub taps-sum : dot (pos 0) taps (reverse (take (i - (i - m)) (drop (i - m) l))) ≡ dot (pos 0) cs (reverse (take i l))
-  taps-sum =
-      dot-latest taps l m i (omega (arith, taps-length)) h g ∙ ap (λ (t : List ℤ). dot (pos 0) t (reverse (take i l))) is
-      ∙ dot-padded (pos 0) (m - length cs) cs (reverse (take i l))
+  pub taps-sum : {sum : ℤ} (xs : List ℤ) → sum ≡ dot (pos 0) (take n taps) xs → sum ≡ dot (pos 0) cs xs
+  taps-sum xs e = rw first-taps at e
+
+-- ---- the arms of a match on the order: the last has what the others leave
+
+abbrev pub Others : ℕ → ℕ → ℕ → Type 0
+Others n least zero = Unit {0}
+Others n least (suc k) = Others n least k × (n ≡ least + k → ⊥)
+
+others-left : (n least k : ℕ) → Others n least k → least ≤ n → least + k ≤ n
+others-left n least zero o h = omega arith
+others-left n least (suc k) o h = let g = others-left n least k (o .0) h in let d = o .1 in omega arith
+
+pub last-order : (n least k : ℕ) → Others n least k → least ≤ n → n ≤ least + k → n ≡ least + k
+last-order n least k o h g = let e = others-left n least k o h in omega arith
 
 -- ---- the coefficients of each fixed order: as many as the order, and small
 
@@ -154,3 +146,15 @@ fixed-row (suc (suc zero)) h = (refl, (lit< tt, (lit< tt, tt)))
 fixed-row (suc (suc (suc zero))) h = (refl, (lit< tt, (lit< tt, (lit< tt, tt))))
 fixed-row (suc (suc (suc (suc zero)))) h = (refl, (lit< tt, (lit< tt, (lit< tt, (lit< tt, tt)))))
 fixed-row (suc (suc (suc (suc (suc n))))) h = absurd (omega arith)
+
+-- an order that `fixed_order` found
+module _ (cs : List ℤ) (shift : ℕ) (block : List ℤ) {r : ℕ} (n : ℕ) (o : FixedOrder r cs shift) (e : r ≡ suc n) where
+  found : FixedOrder (suc n) cs shift
+  found = rw e at o
+
+  pub fixed-ask : length cs ≤ length block → (1 ≤ suc n) × (suc n ≤ 3) × (suc n ≤ length block)
+  fixed-ask h =
+      let k = found .0 in (omega arith, k, omega (arith, ap length (found .1), fixed-row (suc n) (let g : suc n ≤ 4 = omega arith in g) .0))
+
+  pub fixed-promise : {out : List ℤ} → out ≡ predictedInPlace (fixedCoefficients (suc n)) 0 block → out ≡ predictedInPlace cs shift block
+  fixed-promise d = rw (found .1, found .2) d

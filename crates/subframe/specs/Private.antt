@@ -1,6 +1,7 @@
 -- What the answers of the private functions mean in the definition, and what these functions ask of each other. Only
 -- contracts of private functions name it, so nobody has to believe it.
-use Prim.Native.Nat.{ℕ, _+_, _-_, _*_, _^_, _≤_, _<_}
+use Prim.Native.Nat.{ℕ, zero, suc, _+_, _-_, _*_, _^_, _≤_, _<_}
+use mathlib.Core.Path.{_≡_}
 use mathlib.Core.List.{List, _++_}
 use lib.IntN.{ℤ, pos}
 use lib.ListN.{length, take, drop, replicate}
@@ -13,7 +14,7 @@ use Rattle.rfc9639.specs.declared.SubframeType.{SubframeType}
 use Rattle.rfc9639.specs.declared.SubframeType.the-variants.{Constant, Verbatim, Fixed, Lpc}
 use Rattle.rfc9639.specs.declared.SubframeHeader.{SubframeHeader}
 use Rattle.rfc9639.specs.Residual.{residual}
-use Rattle.rfc9639.specs.Prediction.{predict}
+use Rattle.rfc9639.specs.Prediction.{predict, fixedCoefficients}
 use Rattle.rfc9639.specs.Subframe.{lpcAfterShift}
 use Rattle.subframe.specs.declared.answers.Kind.{Kind}
 use Rattle.subframe.specs.declared.answers.SampleRead.{SampleRead}
@@ -91,6 +92,11 @@ Predictable most coefficients block = (length coefficients ≤ most) × (length 
 -- a block that holds its warm-up samples and its residual, with the residual replaced by the samples
 abbrev pub predictedInPlace : List ℤ → ℕ → List ℤ → List ℤ
 predictedInPlace coefficients shift block = predict coefficients shift (take (length coefficients) block) (drop (length coefficients) block)
+
+-- an order of 1 to 3 is that of the fixed predictor that the coefficients and the shift make; 0 says nothing
+abbrev pub FixedOrder : ℕ → List ℤ → ℕ → Type 0
+FixedOrder zero coefficients shift = Unit {0}
+FixedOrder (suc n) coefficients shift = (suc n ≤ 3) × (coefficients ≡ fixedCoefficients (suc n)) × (shift ≡ 0)
 
 -- what follows the coefficients, for a block that starts with its warm-up samples
 abbrev pub predictedBlock : List ℤ → ℕ → List ℤ → Ask (List ℤ)

@@ -8,27 +8,13 @@ ghost use lib.ListN.{length, take};
 ghost use Rattle.rfc9639.specs.Prediction.{dot as dotOf, fixedCoefficients};
 ghost use Rattle.rfc9639.specs.Integers.{wrapped, shiftDown};
 ghost use Rattle.number.specs.Private.{Small};
-ghost use Rattle.subframe.specs.Private.{withZeros, Predictable, predictedInPlace};
+ghost use Rattle.subframe.specs.Private.{withZeros, Predictable, predictedInPlace, FixedOrder};
 
 fn mul_add(sum: i64, c: i32, x: i32) -> i64
     requires { ⌜ (natAbs sum < 2 ^ 62) × (natAbs c < 2 ^ 15) ⌝ }
     ensures { λ r. ⌜ r ≡ sum +ℤ c *ℤ x ⌝ }
 {
     sum + (c as i64) * (x as i64)
-}
-
-// The sum of the products of the coefficients and the latest samples, the latest first.
-fn dot(coefficients: &[i32], before: &[i32]) -> i64
-    requires { ⌜ Predictable 32 (now coefficients) (now before) ⌝ }
-    ensures { λ r. ⌜ (r ≡ dotOf (pos 0) (now (coefficients .entry)) (reverse (now (before .entry)))) × (natAbs r < 2 ^ 62) ⌝ }
-{
-    let mut sum: i64 = 0;
-    let mut j = 0;
-    while j < coefficients.len() {
-        sum = mul_add(sum, coefficients[j], before[before.len() - 1 - j]);
-        j += 1;
-    }
-    sum
 }
 
 // A sample, from its sum of products and its residual.
@@ -39,25 +25,13 @@ fn restore(sum: i64, shift: u32, residual: i32) -> i32
     number::low32(number::shift_down(sum, shift) + residual as i64)
 }
 
-// For any order.
-fn predict_lpc_high_order(coefficients: &[i32], shift: u32, out: &mut [i32])
-    requires { ⌜ Predictable 32 (now coefficients) (now out) ⌝ }
-    ensures { λ r. ⌜ now (out .exit) ≡ predictedInPlace (now (coefficients .entry)) shift (now (out .entry)) ⌝ }
+// The coefficients in an array of their own, padded with zeros: nothing that is stored into a block can change them, so
+// they stay in registers.
+fn taps_of(coefficients: &[i32]) -> [i32; 32]
+    requires { ⌜ length (now coefficients) ≤ 32 ⌝ }
+    ensures { λ r. ⌜ r ≡ withZeros 32 (now (coefficients .entry)) ⌝ }
 {
-    let mut i = coefficients.len();
-    while i < out.len() {
-        let sum = dot(coefficients, &out[..i]);
-        out[i] = restore(sum, shift, out[i]);
-        i += 1;
-    }
-}
-
-// At most twelve coefficients, padded with zeros to twelve: a sum of twelve products is straight code.
-fn taps_of(coefficients: &[i32]) -> [i32; 12]
-    requires { ⌜ length (now coefficients) ≤ 12 ⌝ }
-    ensures { λ r. ⌜ r ≡ withZeros 12 (now (coefficients .entry)) ⌝ }
-{
-    let mut taps = [0i32; 12];
+    let mut taps = [0i32; 32];
     let mut j = 0;
     while j < coefficients.len() {
         taps[j] = coefficients[j];
@@ -66,49 +40,169 @@ fn taps_of(coefficients: &[i32]) -> [i32; 12]
     taps
 }
 
-// The sum of the products of twelve taps and the latest twelve samples.
-fn dot12(taps: &[i32; 12], before: &[i32]) -> i64
-    requires { ⌜ (length (now taps) ≡ 12) × (12 ≤ length (now before)) × Small (2 ^ 15) (now taps) ⌝ }
-    ensures { λ r. ⌜ (r ≡ dotOf (pos 0) (now (taps .entry)) (reverse (now (before .entry)))) × (natAbs r < 2 ^ 62) ⌝ }
+// The sum of the products of the first `order` taps and the latest samples. The latest sample comes last, since the
+// others are known before it.
+fn dot(taps: &[i32; 32], order: usize, before: &[i32]) -> i64
+    requires { ⌜ (order ≤ length (now taps)) × Predictable 32 (take order (now taps)) (now before) ⌝ }
+    ensures { λ r. ⌜ (r ≡ dotOf (pos 0) (take order (now (taps .entry))) (reverse (now (before .entry)))) × (natAbs r < 2 ^ 62) ⌝ }
 {
-    let last = before.len() - 1;
     let mut sum: i64 = 0;
-    let mut j = 0;
-    while j < 12 {
-        sum = mul_add(sum, taps[j], before[last - j]);
-        j += 1;
+    let mut j = order;
+    while 0 < j {
+        j -= 1;
+        sum = mul_add(sum, taps[j], before[before.len() - 1 - j]);
     }
     sum
 }
 
-// For an order of at most 12, as in nearly all streams: after the first twelve samples, each is predicted from twelve.
-fn predict_lpc_low_order(coefficients: &[i32], shift: u32, out: &mut [i32])
-    requires { ⌜ Predictable 12 (now coefficients) (now out) ⌝ }
+// By the first `order` taps. Where the order is a constant, the sum of each sample is straight code.
+fn predict_by_taps(
+    coefficients: &[i32],
+    taps: &[i32; 32],
+    order: usize,
+    shift: u32,
+    out: &mut [i32],
+)
+    requires { ⌜ (now taps ≡ withZeros 32 (now coefficients)) × (length (now coefficients) ≡ order) × Predictable 32 (now coefficients) (now out) ⌝ }
     ensures { λ r. ⌜ now (out .exit) ≡ predictedInPlace (now (coefficients .entry)) shift (now (out .entry)) ⌝ }
 {
-    if out.len() <= 12 {
-        predict_lpc_high_order(coefficients, shift, out);
-        return;
-    }
-    predict_lpc_high_order(coefficients, shift, &mut out[..12]);
-    let taps = taps_of(coefficients);
-    let mut i = 12;
+    let mut i = order;
     while i < out.len() {
-        let sum = dot12(&taps, &out[i - 12..i]);
+        let sum = dot(taps, order, &out[i - order..i]);
         out[i] = restore(sum, shift, out[i]);
         i += 1;
     }
 }
 
-// claxon has two predictors, chosen by the order. Both meet one definition.
+// For an order of at most 12, as in nearly all streams.
+fn predict_lpc_low_order(coefficients: &[i32], shift: u32, out: &mut [i32])
+    requires { ⌜ Predictable 12 (now coefficients) (now out) ⌝ }
+    ensures { λ r. ⌜ now (out .exit) ≡ predictedInPlace (now (coefficients .entry)) shift (now (out .entry)) ⌝ }
+{
+    let taps = taps_of(coefficients);
+    match coefficients.len() {
+        0 => predict_by_taps(coefficients, &taps, 0, shift, out),
+        1 => predict_by_taps(coefficients, &taps, 1, shift, out),
+        2 => predict_by_taps(coefficients, &taps, 2, shift, out),
+        3 => predict_by_taps(coefficients, &taps, 3, shift, out),
+        4 => predict_by_taps(coefficients, &taps, 4, shift, out),
+        5 => predict_by_taps(coefficients, &taps, 5, shift, out),
+        6 => predict_by_taps(coefficients, &taps, 6, shift, out),
+        7 => predict_by_taps(coefficients, &taps, 7, shift, out),
+        8 => predict_by_taps(coefficients, &taps, 8, shift, out),
+        9 => predict_by_taps(coefficients, &taps, 9, shift, out),
+        10 => predict_by_taps(coefficients, &taps, 10, shift, out),
+        11 => predict_by_taps(coefficients, &taps, 11, shift, out),
+        _ => predict_by_taps(coefficients, &taps, 12, shift, out),
+    }
+}
+
+fn predict_lpc_high_order(coefficients: &[i32], shift: u32, out: &mut [i32])
+    requires { ⌜ (12 < length (now coefficients)) × Predictable 32 (now coefficients) (now out) ⌝ }
+    ensures { λ r. ⌜ now (out .exit) ≡ predictedInPlace (now (coefficients .entry)) shift (now (out .entry)) ⌝ }
+{
+    let taps = taps_of(coefficients);
+    match coefficients.len() {
+        13 => predict_by_taps(coefficients, &taps, 13, shift, out),
+        14 => predict_by_taps(coefficients, &taps, 14, shift, out),
+        15 => predict_by_taps(coefficients, &taps, 15, shift, out),
+        16 => predict_by_taps(coefficients, &taps, 16, shift, out),
+        17 => predict_by_taps(coefficients, &taps, 17, shift, out),
+        18 => predict_by_taps(coefficients, &taps, 18, shift, out),
+        19 => predict_by_taps(coefficients, &taps, 19, shift, out),
+        20 => predict_by_taps(coefficients, &taps, 20, shift, out),
+        21 => predict_by_taps(coefficients, &taps, 21, shift, out),
+        22 => predict_by_taps(coefficients, &taps, 22, shift, out),
+        23 => predict_by_taps(coefficients, &taps, 23, shift, out),
+        24 => predict_by_taps(coefficients, &taps, 24, shift, out),
+        25 => predict_by_taps(coefficients, &taps, 25, shift, out),
+        26 => predict_by_taps(coefficients, &taps, 26, shift, out),
+        27 => predict_by_taps(coefficients, &taps, 27, shift, out),
+        28 => predict_by_taps(coefficients, &taps, 28, shift, out),
+        29 => predict_by_taps(coefficients, &taps, 29, shift, out),
+        30 => predict_by_taps(coefficients, &taps, 30, shift, out),
+        31 => predict_by_taps(coefficients, &taps, 31, shift, out),
+        _ => predict_by_taps(coefficients, &taps, 32, shift, out),
+    }
+}
+
+// The order of the fixed predictor of order 1 to 3 that these coefficients and no shift make, else 0.
+fn fixed_order(coefficients: &[i32], shift: u32) -> usize
+    ensures { λ r. ⌜ FixedOrder r (now (coefficients .entry)) shift ⌝ }
+{
+    let n = coefficients.len();
+    if shift != 0 {
+        return 0;
+    }
+    if n == 1 {
+        if coefficients[0] == 1 {
+            return 1;
+        }
+    }
+    if n == 2 {
+        if coefficients[0] == 2 {
+            if coefficients[1] == -1 {
+                return 2;
+            }
+        }
+    }
+    if n == 3 {
+        if coefficients[0] == 3 {
+            if coefficients[1] == -3 {
+                if coefficients[2] == 1 {
+                    return 3;
+                }
+            }
+        }
+    }
+    0
+}
+
+// The sum of the products of a fixed predictor of order 1 to 3: without a product.
+fn fixed_sum(order: usize, before: &[i32]) -> i64
+    requires { ⌜ (1 ≤ order) × (order ≤ 3) × (order ≤ length (now before)) ⌝ }
+    ensures { λ r. ⌜ (r ≡ dotOf (pos 0) (fixedCoefficients order) (reverse (now (before .entry)))) × (natAbs r < 2 ^ 62) ⌝ }
+{
+    let last = before.len() - 1;
+    let a = before[last] as i64;
+    if order == 1 {
+        return a;
+    }
+    let b = before[last - 1] as i64;
+    if order == 2 {
+        return 2 * a - b;
+    }
+    let c = before[last - 2] as i64;
+    3 * (a - b) + c
+}
+
+fn predict_fixed(order: usize, out: &mut [i32])
+    requires { ⌜ (1 ≤ order) × (order ≤ 3) × (order ≤ length (now out)) ⌝ }
+    ensures { λ r. ⌜ now (out .exit) ≡ predictedInPlace (fixedCoefficients order) 0 (now (out .entry)) ⌝ }
+{
+    let mut i = order;
+    while i < out.len() {
+        let sum = fixed_sum(order, &out[i - order..i]);
+        out[i] = restore(sum, 0, out[i]);
+        i += 1;
+    }
+}
+
 pub fn predict_lpc(coefficients: &[i32], shift: u32, out: &mut [i32])
     requires { ⌜ Predictable 32 (now coefficients) (now out) ⌝ }
     ensures { λ r. ⌜ now (out .exit) ≡ predictedInPlace (now (coefficients .entry)) shift (now (out .entry)) ⌝ }
 {
-    if coefficients.len() <= 12 {
-        predict_lpc_low_order(coefficients, shift, out);
-    } else {
-        predict_lpc_high_order(coefficients, shift, out);
+    match fixed_order(coefficients, shift) {
+        1 => predict_fixed(1, out),
+        2 => predict_fixed(2, out),
+        3 => predict_fixed(3, out),
+        _ => {
+            if coefficients.len() <= 12 {
+                predict_lpc_low_order(coefficients, shift, out);
+            } else {
+                predict_lpc_high_order(coefficients, shift, out);
+            }
+        }
     }
 }
 

@@ -12,13 +12,13 @@ use Rattle.subframe.proofs.predict.taps_of.Statement.{statement}
 use Rattle.subframe.proofs.predict.taps_of.Tie as tie
 
 abbrev Inv-loop : tie.InvT-loop
-Inv-loop coefficients taps₀ j₀ taps j = Padding 12 coefficients taps j
+Inv-loop coefficients taps₀ j₀ taps j = Padding 32 coefficients taps j
 
 abbrev μ-loop : tie.MeasureT-loop
 μ-loop coefficients taps₀ j₀ taps j = length coefficients - j
 
 loop-holds : tie.Need-loop-holds Inv-loop μ-loop
-loop-holds c = pad-begin 12 _
+loop-holds c = pad-begin 32 _
 
 mul-taps : tie.Need-mul-taps Inv-loop μ-loop
 mul-taps c = search needs
