@@ -2,11 +2,11 @@
 use Prim.Native.Nat.{ℕ, zero, suc, _+_, _≤_, _<_, min}
 use native.Mathlib.Nat.{sub-zero}
 use native.Mathlib.Omega.{arith}
-use mathlib.Core.Path.{_≡_, refl, ap, ap₂, sym}
+use mathlib.Core.Path.{_≡_, refl, ap, ap₂, sym, _∙_}
 use mathlib.Core.Bool.{true}
-use mathlib.Core.List.{List, [], _∷_, _++_, append-assoc, append-nil}
+use mathlib.Core.List.{List, [], _∷_, _++_, map, append-assoc, append-nil}
 use borrow.Author.Tests.{eqb-true, lt-ltb, le-leb}
-use lib.IntN.{ℤ, pos, negsuc}
+use lib.IntN.{ℤ, pos, negsuc, one, *ℤ-one}
 use lib.ListN.{length, take, replicate}
 use lib.Seq.{length-take-le}
 use Rattle.reading.specs.Readers.{done, many}
@@ -16,11 +16,10 @@ use Rattle.reading.proofs.Postconditions.{Every, every-imp, every-take}
 use Rattle.rfc9639.specs.declared.Candidate.{Candidate}
 use Rattle.rfc9639.specs.declared.SubframeType.{SubframeType}
 use Rattle.rfc9639.specs.declared.SubframeType.the-variants.{Constant, Verbatim, Fixed}
-use Rattle.rfc9639.specs.Integers.{low, signedBits}
+use Rattle.rfc9639.specs.Integers.{low, signedBits, shiftUp}
 use Rattle.rfc9639.specs.Subframe.{subframeType, wastedBits, checkedWastedBits, kindAndWasted, subframeHeader, orderOf, fixed, samplesByType, subframeAfterHeader, subframe}
 use Rattle.rfc9639.specs.SubframeCoding.{fixedResiduals, residualBits, plain, subframeHeaderBits, codedAs, equalSamples, uniform, subframeBits}
-use Rattle.rfc9639.proofs.Widths.{Fits, fits-mono}
-use Rattle.rfc9639.proofs.Lists.{map-shiftUp-none}
+use Rattle.rfc9639.proofs.Widths.{Fits, fits-mono, shiftUp-exact}
 use Rattle.rfc9639.proofs.Lengths.{length-fixedResiduals}
 use Rattle.rfc9639.proofs.FewestBits as Choosing
 use Rattle.rfc9639.proofs.FewestBits.{chosen-candidate}
@@ -44,6 +43,16 @@ module _ (w : ℕ) (h : 1 ≤ w) where
       (spells-checked 4 _ refl
       (spells-bind _ (spells-bits 6 l)
       (spells-then _ (spells-by e spells-done) (spells-last _ spells-wasted spells-done)))))
+
+-- ---- no wasted bits
+
+shiftUp-none : (x : ℤ) → Fits 32 x → shiftUp 0 x ≡ x
+unfolding one
+shiftUp-none x f = shiftUp-exact {w = 32} (omega arith) f 0 (omega arith) ∙ *ℤ-one x
+
+map-shiftUp-none : (xs : List ℤ) → Every (Fits 32) xs → map (shiftUp 0) xs ≡ xs
+map-shiftUp-none [] h = refl
+map-shiftUp-none (x ∷ xs) h = ap₂ (λ y ys. y ∷ ys) (shiftUp-none x (h .0)) (map-shiftUp-none xs (h .1))
 
 -- ---- equal samples
 

@@ -3,7 +3,7 @@ use Prim.Native.Nat.{ℕ, zero, suc, _+_, _^_, _<_}
 use mathlib.Core.Path.{_≡_, refl, ap, ap₂, _∙_}
 use mathlib.Core.Bool.{Bool, true, false, cond}
 use mathlib.Core.List.{List, [], _∷_, _++_, map}
-use lib.ListN.{length, take, drop, replicate, length-append}
+use lib.ListN.{length, take, drop, length-append}
 use Rattle.reading.specs.declared.Place.{Place}
 use Rattle.reading.specs.Readers.{nextBits, nextZeros, Ask, done, stop, ask, seen, _>>=_, bits, zeros, passed, require, many, each, Reply, found, cut, bitsFrom, reply, RunResult, follow, run}
 use Rattle.reading.specs.Bytes.{bitsOfBytes}
@@ -44,14 +44,6 @@ holds-refused f (refusal {n = n} h) = refusal (f n h)
 holds-refused f (any-bits h) = any-bits (λ v l. holds-refused f (h v l))
 holds-refused f (any-zeros h) = any-zeros (λ v. holds-refused f (h v))
 holds-refused f (any-seen h) = any-seen (λ l. holds-refused f (h l))
-
--- where nothing is asked of a refusal, nothing is to be shown of a value that is not used
-pub holds-any : {A : Type 0} {R : ℕ → Type 0} → ((n : ℕ) → R n) → (p : Ask A) → Holds R (λ a. Unit {0}) p
-holds-any r (done a) = value tt
-holds-any r (stop n) = refusal (r n)
-holds-any r (ask (nextBits n) k) = any-bits (λ v _. holds-any r (k v))
-holds-any r (ask nextZeros k) = any-zeros (λ v. holds-any r (k v))
-holds-any r (seen k) = any-seen (λ l. holds-any r (k l))
 
 module _ {R : ℕ → Type 0} where
   pub holds-bits : (n : ℕ) → Holds R (λ v. v < 2 ^ n) (bits n)
@@ -103,10 +95,6 @@ every-imp f (x ∷ xs) e = (f x (e .0), every-imp f xs (e .1))
 pub every-map : {A B : Type 0} (P : B → Type 0) (f : A → B) (xs : List A) → Every (λ x. P (f x)) xs → Every P (map f xs)
 every-map P f [] e = tt
 every-map P f (x ∷ xs) e = (e .0, every-map P f xs (e .1))
-
-pub every-replicate : {A : Type 0} (P : A → Type 0) (n : ℕ) {x : A} → P x → Every P (replicate n x)
-every-replicate P zero h = tt
-every-replicate P (suc n) h = (h, every-replicate P n h)
 
 pub record Sized {A : Type 0} (n : ℕ) (P : A → Type 0) (xs : List A) : Type 0 where
   pub count : length xs ≡ n

@@ -1,9 +1,9 @@
--- Lists of the definition: consecutive numbers, channels and their lanes, samples, pairs of them. Assumes nothing.
+-- Lists of the definition: consecutive numbers, channels and their lanes, pairs of samples. Assumes nothing.
 use Prim.Native.Nat.{ℕ, zero, suc, _+_, _≤_, _<_}
 use native.Mathlib.Nat.{add-zero, zero-add}
 use native.Mathlib.Numerals.{add-one}
 use native.Mathlib.Omega.{arith}
-use mathlib.Core.Path.{_≡_, refl, ap, ap₂, sym, _∙_}
+use mathlib.Core.Path.{_≡_, refl, ap, sym, _∙_}
 use mathlib.Core.Bool.{Bool, true, false, cond}
 use mathlib.Core.List.{List, [], _∷_, _++_, map, map-append}
 use borrow.Author.Tests.{ltb-true}
@@ -15,13 +15,11 @@ use Rattle.rfc9639.specs.declared.ChannelAssignment.{ChannelAssignment}
 use Rattle.rfc9639.specs.declared.ChannelAssignment.the-variants.{Independent, LeftSide, SideRight, MidSide}
 use Rattle.rfc9639.specs.declared.Lane.{Lane}
 use Rattle.rfc9639.specs.declared.Lane.the-variants.{Channel, Mid, Side}
-use Rattle.rfc9639.specs.Integers.{shiftUp}
 use Rattle.rfc9639.specs.HeaderCodes.{assignment, channelCount}
 use Rattle.rfc9639.specs.Stereo.{pairwise}
 use Rattle.rfc9639.specs.Frame.{widths}
 use Rattle.rfc9639.specs.SubframeCoding.{numbersFrom}
 use Rattle.rfc9639.specs.Write.{laneOf, lanes, laneWidth}
-use Rattle.rfc9639.proofs.Widths.{Fits, shiftUp-none}
 
 -- ---- consecutive numbers
 
@@ -102,12 +100,6 @@ widths-lanes (Independent k) b = widths-independent k b 0 k
 widths-lanes LeftSide b = refl
 widths-lanes SideRight b = refl
 widths-lanes MidSide b = refl
-
--- ---- samples with no wasted bits
-
-pub map-shiftUp-none : (xs : List ℤ) → Every (Fits 32) xs → map (shiftUp 0) xs ≡ xs
-map-shiftUp-none [] h = refl
-map-shiftUp-none (x ∷ xs) h = ap₂ (λ y ys. y ∷ ys) (shiftUp-none x (h .0)) (map-shiftUp-none xs (h .1))
 
 -- ---- pairs of samples of which one is kept
 

@@ -6,7 +6,7 @@ use mathlib.Core.Path.{_≡_, refl, ap, ap₂, sym, _∙_, subst}
 use mathlib.Core.Bool.{Bool, true, false, cond}
 use borrow.Author.Tests.{ltb-true, ltb-false, lt-ltb, le-ltb}
 use lib.Dec.{ltb}
-use lib.IntN.{ℤ, pos, negsuc, one, negℤ, subℕ, _+ℤ_, _-ℤ_, _*ℤ_, *ℤ-one}
+use lib.IntN.{ℤ, pos, negsuc, negℤ, subℕ, _+ℤ_, _-ℤ_, _*ℤ_}
 use lib.Pow.{pow-pos, pow-mono, pow-add, mod-mod-pow}
 use lib.Signed.{mag}
 use mir.Syntax.{Width}
@@ -292,10 +292,6 @@ fits-mul {w} {z} h f k = record { fits = rw power (product z (f .fits)) }
 pub shiftUp-exact : {w : ℕ} {z : ℤ} → 1 ≤ w → Fits w z → (k : ℕ) → w + k ≤ 32 → shiftUp k z ≡ z *ℤ pos (2 ^ k)
 unfolding shiftUp
 shiftUp-exact h f k l = wrapped-same 32 _ (omega arith) (fits-mono l (fits-mul h f k))
-
-pub shiftUp-none : (z : ℤ) → Fits 32 z → shiftUp 0 z ≡ z
-unfolding one
-shiftUp-none z f = shiftUp-exact {w = 32} (omega arith) f 0 (omega arith) ∙ *ℤ-one z
 
 -- a number shifted up by 32 or more is zero in 32 bits
 pub shiftUp-out : (k : ℕ) (z : ℤ) → 32 ≤ k → shiftUp k z ≡ pos 0

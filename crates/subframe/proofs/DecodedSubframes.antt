@@ -3,7 +3,7 @@ use Prim.Native.Nat.{ℕ, suc, _+_, _-_, _^_, _≤_, _<_}
 use native.Mathlib.Numerals.{add-one}
 use native.Mathlib.Omega.{arith}
 use mathlib.Core.Path.{_≡_, refl, ap, ap₂, sym, _∙_, subst}
-use mathlib.Core.List.{List, [], _∷_, _++_, map, reverse, append-nil}
+use mathlib.Core.List.{List, [], _∷_, _++_, map, append-nil}
 use borrow.Author.Tests.{le-leb, lt-leb}
 use borrow.Rule.Slice.PartMut.{putMid}
 use lib.IntN.{ℤ, pos, negsuc}
@@ -16,18 +16,16 @@ use Rattle.reading.specs.declared.Place.{Place}
 use Rattle.reading.specs.Readers.{Ask, done, _>>=_, many}
 use Rattle.reading.specs.Places.{At, gotAt, refusedAt, shortAt, runAt}
 use Rattle.reading.proofs.ByteRuns.{In, bind-short, require-holds, require-fails}
-use Rattle.reading.proofs.Postconditions.{Holds, value, Every, every-append, every-replicate, Sized, holds-bind, holds-weaken, holds-any, holds-bits, holds-many}
+use Rattle.reading.proofs.Postconditions.{Holds, value, Every, Sized, holds-bind, holds-bits, holds-many}
 use Rattle.error.specs.declared.Refusal.{Refusal}
 use Rattle.number.specs.Private.{Small}
 use Rattle.rfc9639.specs.declared.SubframeHeader.{SubframeHeader}
-use Rattle.rfc9639.specs.declared.SubframeType.{SubframeType}
-use Rattle.rfc9639.specs.declared.SubframeType.the-variants.{Constant, Verbatim, Fixed, Lpc}
+use Rattle.rfc9639.specs.declared.SubframeType.the-variants.{Constant}
 use Rattle.rfc9639.specs.Integers.{signedBits, shiftUp}
 use Rattle.rfc9639.specs.Residual.{residual}
-use Rattle.rfc9639.specs.Prediction.{predicted, restored, predict, fixedCoefficients}
-use Rattle.rfc9639.specs.Subframe.{orderOf, fixed, quantization, lpcAfterShift, lpc, samplesByType, subframe, subframeAfterHeader}
-use Rattle.rfc9639.proofs.Lists.{map-shiftUp-none}
-use Rattle.rfc9639.proofs.Widths.{Fits, fits-mono, signed-fits, wrapped-fits}
+use Rattle.rfc9639.specs.Prediction.{predict}
+use Rattle.rfc9639.specs.Subframe.{orderOf, samplesByType, subframe, subframeAfterHeader}
+use Rattle.rfc9639.proofs.Widths.{Fits, fits-mono, signed-fits}
 use Rattle.subframe.specs.declared.Decoded.{Decoded}
 use Rattle.subframe.specs.declared.Decoded.the-variants.{Done, Refused}
 use Rattle.subframe.specs.declared.answers.SampleRead.{SampleRead}
@@ -101,8 +99,7 @@ small-every [] h = tt
 small-every (pos n ∷ xs) h = (omega (arith, h .0 .fits), small-every xs (h .1))
 small-every (negsuc n ∷ xs) h = (omega (arith, h .0 .fits), small-every xs (h .1))
 
--- a sample of w bits fits m
-holds-sample : (w : ℕ) {m : ℕ} → w ≤ m → Holds AnyRefusal (Fits m) (signedBits w)
+holds-sample : (w : ℕ) → w ≤ 15 → Holds AnyRefusal (Fits 15) (signedBits w)
 unfolding signedBits
 holds-sample w h = holds-bind _ (holds-bits w) (λ v l. value (fits-mono h (signed-fits w v l)))
 
@@ -121,28 +118,6 @@ module _ (w n : ℕ) (s : List ℕ) (at : Place) {r : SampleRead} (says : sample
   pub constant-done : {x : ℤ} {p : Place} {l : List ℤ} → r ≡ Value x p → l ≡ replicate n x → gotAt l p ≡ runAt (samplesByType Constant w n) s at
   unfolding samplesByType
   constant-done {p = p} e f = ap (λ t. gotAt t p) f ∙ sym (bind-done (signedBits w) (replicate n) s at (answer-is sampleReadAt says e))
-
--- ---- each sample fits 32 bits, before the wasted bits are put back
-
-restored-fit : (cs : List ℤ) (shift : ℕ) (before rs : List ℤ) → Every (Fits 32) (restored cs shift before rs)
-unfolding restored predicted
-restored-fit cs shift before [] = tt
-restored-fit cs shift before (r ∷ rs) = (wrapped-fits 32 _, restored-fit cs shift (predicted cs shift before r ∷ before) rs)
-
-holds-predict : (cs : List ℤ) (shift : ℕ) (warm : List ℤ) (p : Ask (List ℤ)) → Every (Fits 32) warm
-    → Holds AnyRefusal (Every (Fits 32)) (p >>= (λ r. done (predict cs shift warm r)))
-unfolding predict
-holds-predict cs shift warm p h = holds-bind _ (holds-any (λ n. tt) p) (λ r _. value (every-append (Fits 32) warm _ h (restored-fit cs shift (reverse warm) r)))
-
-holds-samples : (kind : SubframeType) (w n : ℕ) → w ≤ 32 → Holds AnyRefusal (Every (Fits 32)) (samplesByType kind w n)
-unfolding samplesByType fixed lpc lpcAfterShift
-holds-samples Constant w n h = holds-bind _ (holds-sample w h) (λ x f. value (every-replicate (Fits 32) n f))
-holds-samples Verbatim w n h = holds-weaken (λ xs z. z .every) (holds-many n (holds-sample w h))
-holds-samples (Fixed k) w n h = holds-bind _ (holds-many k (holds-sample w h)) (λ warm z. holds-predict (fixedCoefficients k) 0 warm (residual k n) (z .every))
-holds-samples (Lpc k) w n h =
-    holds-bind _ (holds-many k (holds-sample w h))
-    (λ warm z. holds-bind _ (holds-any (λ n. tt) quantization)
-    (λ q _. holds-bind _ (holds-any (λ n. tt) (many k (signedBits (q .0)))) (λ cs _. holds-predict cs (q .1) warm (residual k n) (z .every))))
 
 -- ---- after a header
 
@@ -167,12 +142,6 @@ module _ (n width : ℕ) (h : SubframeHeader) (s : List ℕ) (at : Place) (here 
 
     pub after-header-done : {p : Place} {left : List ℤ} → r ≡ Done p → left ≡ shifted l → gotAt left p ≡ runAt (subframeAfterHeader n width h) s at
     after-header-done e f = then-done body shifted s at l says e f ∙ order-enough enough
-
-    pub after-header-unshifted : width ≤ 32 → h .wasted ≤ 0 → {p : Place} → r ≡ Done p → gotAt l p ≡ runAt (subframeAfterHeader n width h) s at
-    after-header-unshifted narrow none e =
-        let z : h .wasted ≡ 0 = omega arith in
-        let fit : Every (Fits 32) l = got-holds (holds-samples (h .kind) (width - h .wasted) n (omega arith)) s at (done-is l says e) in
-        after-header-done e (sym (ap (λ k. map (shiftUp k) l) z ∙ map-shiftUp-none l fit))
 
 -- ---- the whole, with zeros on a refusal
 

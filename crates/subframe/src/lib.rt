@@ -174,9 +174,7 @@ fn decode_after_header(
     let Decoded::Done(p) = decoded else {
         return decoded;
     };
-    if 0 < wasted {
-        shift_all(out, wasted);
-    }
+    shift_all(out, wasted);
     Decoded::Done(p)
 }
 

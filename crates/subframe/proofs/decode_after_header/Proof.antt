@@ -5,7 +5,7 @@ use borrow.Author.Needs.{needs}
 use borrow.Author.Tests.{not-true, not-false}
 use lib.ListN.{length}
 use Rattle.reading.proofs.ByteRuns.{In, inside-in, runAt-out}
-use Rattle.subframe.proofs.DecodedSubframes.{order-too-high, after-header-refused, after-header-done, after-header-unshifted}
+use Rattle.subframe.proofs.DecodedSubframes.{order-too-high, after-header-refused, after-header-done}
 use Rattle.subframe.proofs.decode_after_header.Statement.{statement}
 use Rattle.subframe.proofs.decode_after_header.Tie as tie
 
@@ -55,20 +55,10 @@ same-length-2 c = search needs
 
 returns-4 : tie.Need-returns-4
 returns-4 c =
-    let k = c .before .before .before .before .before in let d = k .before .before .before in let e = d .before .before in let o = e .before in
+    let k = c .before .before .before .before in let d = k .before .before .before in let e = d .before .before in let o = e .before in
     let a = o .before .before .before .before .args in
     after-header-done (length (a .out .now)) (a .width) (a .h) (a .s .now) (a .at) (here (o .before)) (omega (arith, o .order-of .ensures, e .if2 .left))
     (d .decode-kind .last .1 .1 .1 .1 .0) (d .decode-kind .ensures) (k .decoded .given .1) (c .before .shift-all .ensures)
-
-same-length-3 : tie.Need-same-length-3
-same-length-3 c = search needs
-
-returns-5 : tie.Need-returns-5
-returns-5 c =
-    let k = c .before .before in let d = k .before .before .before in let e = d .before .before in let o = e .before in
-    let a = o .before .before .before .before .args in
-    after-header-unshifted (length (a .out .now)) (a .width) (a .h) (a .s .now) (a .at) (here (o .before)) (omega (arith, o .order-of .ensures, e .if2 .left))
-    (d .decode-kind .last .1 .1 .1 .1 .0) (d .decode-kind .ensures) (omega arith) (omega arith) (k .decoded .given .1)
 
 pub decode-after-header-spec : {M : Type 1} → statement M
 decode-after-header-spec =
@@ -86,6 +76,4 @@ decode-after-header-spec =
     returns-3
     shift-all-requires
     same-length-2
-    returns-4
-    same-length-3
-    returns-5)
+    returns-4)
