@@ -54,7 +54,7 @@ small-at b [] i h s = absurd (omega arith)
 small-at b (z ∷ l) zero h s = s .0
 small-at b (z ∷ l) (suc i) h s = small-at b l i (omega arith) (s .1)
 
--- a sum is onto any number
+-- what a sum starts from may be added last
 dot-onto : (a : ℤ) (cs xs : List ℤ) → dot a cs xs ≡ dot (pos 0) cs xs +ℤ a
 unfolding dot
 dot-onto a [] xs = sym (+ℤ-idl a)

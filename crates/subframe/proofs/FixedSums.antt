@@ -1,4 +1,4 @@
--- The sums of the fixed predictors of order 1 to 3 without a product by a sample, exact at 64 bits. Assumes nothing.
+-- The fixed predictors of order 1 to 3: their coefficients, and their sums by sums and differences. Assumes nothing.
 use Prim.Native.Nat.{ℕ, suc, _+_, _-_, _*_, _^_, _≤_, _<_}
 use native.Mathlib.Nat.{mul-le-mul, sub-zero, le-refl}
 use native.Mathlib.Omega.{arith}
@@ -73,7 +73,6 @@ sum-3 (x ∷ y ∷ z ∷ xs) h =
 -- ---- as the code has them: the samples in their order, the latest last
 
 module _ (before : List ℤ) {order : ℕ} (long : order ≤ length before) where
-  -- sample j before the end
   abbrev at : ℕ → ℤ
   at i = getD before i (pos 0)
 
@@ -119,15 +118,15 @@ pub exact-at : (l : List ℤ) (i : ℕ) → SFits w32 (getD l i (pos 0)) → Exa
 exact-at l i f = exact (omega arith) (toZ-ofZ f) (abs-of-fits (of-sfits f))
 
 module _ {x a : ℤ} {m : ℕ} (p : Exact x a m) where
-  pub times : (k : ℕ) → k * m < 2 ^ 63 → Exact (pos k *ℤ toZ w64 (ofZ w64 x)) (pos k *ℤ a) (k * m)
-  times k h = exact h (ap (λ (z : ℤ). pos k *ℤ z) (p .is)) (rw abs-mul (mul-le-mul {n₂ = k} {m₂ = m} (le-refl k) (p .bound)))
+  pub exact-multiple : (k : ℕ) → k * m < 2 ^ 63 → Exact (pos k *ℤ toZ w64 (ofZ w64 x)) (pos k *ℤ a) (k * m)
+  exact-multiple k h = exact h (ap (λ (z : ℤ). pos k *ℤ z) (p .is)) (rw abs-mul (mul-le-mul {n₂ = k} {m₂ = m} (le-refl k) (p .bound)))
 
-  pub met : {d : ℤ} → a ≡ d → m < 2 ^ 62 → (toZ w64 (ofZ w64 x) ≡ d) × (natAbs (toZ w64 (ofZ w64 x)) < 2 ^ 62)
-  met e h = (p .is ∙ e, rw (p .is) (omega (arith, p .bound)))
+  pub exact-answer : {d : ℤ} → a ≡ d → m < 2 ^ 62 → (toZ w64 (ofZ w64 x) ≡ d) × (natAbs (toZ w64 (ofZ w64 x)) < 2 ^ 62)
+  exact-answer e h = (p .is ∙ e, rw (p .is) (omega (arith, p .bound)))
 
   module _ {y b : ℤ} {n : ℕ} (q : Exact y b n) (h : m + n < 2 ^ 63) where
-    pub plus : Exact (toZ w64 (ofZ w64 x) +ℤ toZ w64 (ofZ w64 y)) (a +ℤ b) (m + n)
-    plus = exact h (ap₂ (λ (c d : ℤ). c +ℤ d) (p .is) (q .is)) (omega (arith, abs-add a b, p .bound, q .bound))
+    pub exact-sum : Exact (toZ w64 (ofZ w64 x) +ℤ toZ w64 (ofZ w64 y)) (a +ℤ b) (m + n)
+    exact-sum = exact h (ap₂ (λ (c d : ℤ). c +ℤ d) (p .is) (q .is)) (omega (arith, abs-add a b, p .bound, q .bound))
 
-    pub less : Exact (toZ w64 (ofZ w64 x) -ℤ toZ w64 (ofZ w64 y)) (a -ℤ b) (m + n)
-    less = exact h (ap₂ (λ (c d : ℤ). c -ℤ d) (p .is) (q .is)) (omega (arith, abs-add a (negℤ b), abs-neg b, p .bound, q .bound))
+    pub exact-difference : Exact (toZ w64 (ofZ w64 x) -ℤ toZ w64 (ofZ w64 y)) (a -ℤ b) (m + n)
+    exact-difference = exact h (ap₂ (λ (c d : ℤ). c -ℤ d) (p .is) (q .is)) (omega (arith, abs-add a (negℤ b), abs-neg b, p .bound, q .bound))

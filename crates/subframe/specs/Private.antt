@@ -89,11 +89,15 @@ StartsInWord RiceRead.Short = Unit {0}
 abbrev pub Predictable : ℕ → List ℤ → List ℤ → Type 0
 Predictable most coefficients block = (length coefficients ≤ most) × (length coefficients ≤ length block) × Small (2 ^ 15) coefficients
 
+-- taps that hold the coefficients, of which there are `order`, and then zeros
+abbrev pub Tapped : List ℤ → List ℤ → ℕ → List ℤ → Type 0
+Tapped coefficients taps order block = (taps ≡ withZeros 32 coefficients) × (length coefficients ≡ order) × Predictable 32 coefficients block
+
 -- a block that holds its warm-up samples and its residual, with the residual replaced by the samples
 abbrev pub predictedInPlace : List ℤ → ℕ → List ℤ → List ℤ
 predictedInPlace coefficients shift block = predict coefficients shift (take (length coefficients) block) (drop (length coefficients) block)
 
--- an order of 1 to 3 is that of the fixed predictor that the coefficients and the shift make; 0 says nothing
+-- an order from 1 to 3 is that of the fixed predictor that the coefficients and the shift make; 0 says nothing
 abbrev pub FixedOrder : ℕ → List ℤ → ℕ → Type 0
 FixedOrder zero coefficients shift = Unit {0}
 FixedOrder (suc n) coefficients shift = (suc n ≤ 3) × (coefficients ≡ fixedCoefficients (suc n)) × (shift ≡ 0)

@@ -2,13 +2,12 @@
 // holds the samples in the end. The sums are exact: 32 products of a 15-bit and a 32-bit number stay below 2 ^ 51.
 ghost use mathlib.Core.Path.{_≡_};
 ghost use mathlib.Core.List.{reverse};
-ghost use Prim.Native.Nat.{_+_, _*_, _^_, _≤_, _<_};
+ghost use Prim.Native.Nat.{_^_, _≤_, _<_};
 ghost use lib.IntN.{pos, natAbs, _+ℤ_, _*ℤ_};
 ghost use lib.ListN.{length, take};
 ghost use Rattle.rfc9639.specs.Prediction.{dot as dotOf, fixedCoefficients};
 ghost use Rattle.rfc9639.specs.Integers.{wrapped, shiftDown};
-ghost use Rattle.number.specs.Private.{Small};
-ghost use Rattle.subframe.specs.Private.{withZeros, Predictable, predictedInPlace, FixedOrder};
+ghost use Rattle.subframe.specs.Private.{withZeros, Predictable, Tapped, predictedInPlace, FixedOrder};
 
 fn mul_add(sum: i64, c: i32, x: i32) -> i64
     requires { ⌜ (natAbs sum < 2 ^ 62) × (natAbs c < 2 ^ 15) ⌝ }
@@ -55,7 +54,8 @@ fn dot(taps: &[i32; 32], order: usize, before: &[i32]) -> i64
     sum
 }
 
-// By the first `order` taps. Where the order is a constant, the sum of each sample is straight code.
+// By the first `order` taps, which hold the coefficients: these are here for the contract alone. Each call has a
+// constant for the order, so the sum of each sample is straight code.
 fn predict_by_taps(
     coefficients: &[i32],
     taps: &[i32; 32],
@@ -63,7 +63,7 @@ fn predict_by_taps(
     shift: u32,
     out: &mut [i32],
 )
-    requires { ⌜ (now taps ≡ withZeros 32 (now coefficients)) × (length (now coefficients) ≡ order) × Predictable 32 (now coefficients) (now out) ⌝ }
+    requires { ⌜ Tapped (now coefficients) (now taps) order (now out) ⌝ }
     ensures { λ r. ⌜ now (out .exit) ≡ predictedInPlace (now (coefficients .entry)) shift (now (out .entry)) ⌝ }
 {
     let mut i = order;
@@ -97,6 +97,7 @@ fn predict_lpc_low_order(coefficients: &[i32], shift: u32, out: &mut [i32])
     }
 }
 
+// For an order above 12.
 fn predict_lpc_high_order(coefficients: &[i32], shift: u32, out: &mut [i32])
     requires { ⌜ (12 < length (now coefficients)) × Predictable 32 (now coefficients) (now out) ⌝ }
     ensures { λ r. ⌜ now (out .exit) ≡ predictedInPlace (now (coefficients .entry)) shift (now (out .entry)) ⌝ }
@@ -126,7 +127,7 @@ fn predict_lpc_high_order(coefficients: &[i32], shift: u32, out: &mut [i32])
     }
 }
 
-// The order of the fixed predictor of order 1 to 3 that these coefficients and no shift make, else 0.
+// The order, from 1 to 3, of the fixed predictor that has these coefficients and this shift, or 0 for any other.
 fn fixed_order(coefficients: &[i32], shift: u32) -> usize
     ensures { λ r. ⌜ FixedOrder r (now (coefficients .entry)) shift ⌝ }
 {
@@ -158,7 +159,7 @@ fn fixed_order(coefficients: &[i32], shift: u32) -> usize
     0
 }
 
-// The sum of the products of a fixed predictor of order 1 to 3: without a product.
+// The sum of the products of a fixed predictor of order 1 to 3 (RFC 9639 section 9.2.5), by sums and differences.
 fn fixed_sum(order: usize, before: &[i32]) -> i64
     requires { ⌜ (1 ≤ order) × (order ≤ 3) × (order ≤ length (now before)) ⌝ }
     ensures { λ r. ⌜ (r ≡ dotOf (pos 0) (fixedCoefficients order) (reverse (now (before .entry)))) × (natAbs r < 2 ^ 62) ⌝ }
@@ -176,6 +177,7 @@ fn fixed_sum(order: usize, before: &[i32]) -> i64
     3 * (a - b) + c
 }
 
+// For a fixed predictor of order 1 to 3.
 fn predict_fixed(order: usize, out: &mut [i32])
     requires { ⌜ (1 ≤ order) × (order ≤ 3) × (order ≤ length (now out)) ⌝ }
     ensures { λ r. ⌜ now (out .exit) ≡ predictedInPlace (fixedCoefficients order) 0 (now (out .entry)) ⌝ }
@@ -188,6 +190,8 @@ fn predict_fixed(order: usize, out: &mut [i32])
     }
 }
 
+// claxon has two predictors, chosen by the order. Fixed predictors of order 1 to 3 have a third here, which needs no
+// products. All meet one definition.
 pub fn predict_lpc(coefficients: &[i32], shift: u32, out: &mut [i32])
     requires { ⌜ Predictable 32 (now coefficients) (now out) ⌝ }
     ensures { λ r. ⌜ now (out .exit) ≡ predictedInPlace (now (coefficients .entry)) shift (now (out .entry)) ⌝ }

@@ -7,7 +7,7 @@ use lib.IntN.{ℤ, pos, _-ℤ_}
 use lib.ListN.{length, getD}
 use mir.Syntax.{w32, w64}
 use mir.Val.{toZ, ofZ}
-use Rattle.subframe.proofs.FixedSums.{Exact, ExactAt, exact-at, times, plus, less, met, fixed-sum-1, fixed-sum-2, fixed-sum-3}
+use Rattle.subframe.proofs.FixedSums.{Exact, ExactAt, exact-at, exact-multiple, exact-sum, exact-difference, exact-answer, fixed-sum-1, fixed-sum-2, fixed-sum-3}
 use Rattle.subframe.proofs.predict.fixed_sum.Statement.{statement}
 use Rattle.subframe.proofs.predict.fixed_sum.Tie as tie
 
@@ -27,7 +27,7 @@ cast-a : tie.Need-cast-a
 cast-a c = latest c .fits
 
 returns : tie.Need-returns
-returns c = met (latest (c .before)) (fixed-sum-1 (c .before .before .args .before .now) (c .before .before .pre .2) (c .if1 .taken)) (omega arith)
+returns c = exact-answer (latest (c .before)) (fixed-sum-1 (c .before .before .args .before .now) (c .before .before .pre .2) (c .if1 .taken)) (omega arith)
 
 sub-b : tie.Need-sub-b
 sub-b c = search needs
@@ -48,14 +48,14 @@ cast-b : tie.Need-cast-b
 cast-b c = second c .fits
 
 mul-result : tie.Need-mul-result
-mul-result c = times (latest (c .before .before .before)) 2 (omega arith) .fits
+mul-result c = exact-multiple (latest (c .before .before .before)) 2 (omega arith) .fits
 
 sub-result : tie.Need-sub-result
-sub-result c = less (times (latest (c .before .before .before)) 2 (omega arith)) (second (c .before)) (omega arith) .fits
+sub-result c = exact-difference (exact-multiple (latest (c .before .before .before)) 2 (omega arith)) (second (c .before)) (omega arith) .fits
 
 returns-2 : tie.Need-returns-2
 returns-2 c =
-    met (less (times (latest (c .before .before .before)) 2 (omega arith)) (second (c .before)) (omega arith))
+    exact-answer (exact-difference (exact-multiple (latest (c .before .before .before)) 2 (omega arith)) (second (c .before)) (omega arith))
     (fixed-sum-2 (samples (c .before .before)) (c .before .before .before .before .pre .2) (c .if2 .taken)) (omega arith)
 
 sub-c : tie.Need-sub-c
@@ -81,20 +81,20 @@ module _ (c : tie.After-c) where
 
   step : Exact (toZ w64 (ofZ w64 (toZ w32 (ofZ w32 (getD l (length l - 1) (pos 0))))) -ℤ toZ w64 (ofZ w64 (toZ w32 (ofZ w32 (getD l (length l - 1 - 1) (pos 0))))))
       (getD l (length l - 1) (pos 0) -ℤ getD l (length l - 1 - 1) (pos 0)) (2 ^ 31 + 2 ^ 31)
-  step = less (latest (c .before .before .before .before)) (second (c .before .before)) (omega arith)
+  step = exact-difference (latest (c .before .before .before .before)) (second (c .before .before)) (omega arith)
 
 sub-result-2 : tie.Need-sub-result-2
 sub-result-2 c = step c .fits
 
 mul-result-2 : tie.Need-mul-result-2
-mul-result-2 c = times (step c) 3 (omega arith) .fits
+mul-result-2 c = exact-multiple (step c) 3 (omega arith) .fits
 
 add-result : tie.Need-add-result
-add-result c = plus (times (step c) 3 (omega arith)) (third c) (omega arith) .fits
+add-result c = exact-sum (exact-multiple (step c) 3 (omega arith)) (third c) (omega arith) .fits
 
 returns-3 : tie.Need-returns-3
 returns-3 c =
-    met (plus (times (step c) 3 (omega arith)) (third c) (omega arith))
+    exact-answer (exact-sum (exact-multiple (step c) 3 (omega arith)) (third c) (omega arith))
     (fixed-sum-3 (samples (c .before .before .before)) (c .before .before .before .before .before .pre .2) (omega arith)) (omega arith)
 
 pub fixed-sum-spec : {M : Type 1} → statement M
