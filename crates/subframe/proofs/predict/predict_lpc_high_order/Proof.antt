@@ -1,4 +1,4 @@
--- `predict_lpc_high_order`: each arm hands over its order; the last arm has the order that the others leave. Assumes nothing.
+-- `predict_lpc_high_order`: each arm hands over its order; the last arm has the one that is left. Assumes nothing.
 use Prim.Native.Nat.{ℕ}
 use mathlib.Core.Path.{_≡_}
 use borrow.Author.Needs.{needs}

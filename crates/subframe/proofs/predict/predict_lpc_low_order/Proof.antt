@@ -1,4 +1,4 @@
--- `predict_lpc_low_order`: each arm hands over its order; the last arm has the order that the others leave. Assumes nothing.
+-- `predict_lpc_low_order`: each arm hands over its order; the last arm has the one that is left. Assumes nothing.
 use Prim.Native.Nat.{ℕ, zero-le}
 use native.Mathlib.Nat.{le-trans}
 use mathlib.Core.Path.{_≡_}
