@@ -3,7 +3,7 @@ use Prim.Native.Nat.{ℕ, zero, suc, _+_, _-_, _^_, _≤_, _<_}
 use native.Mathlib.Nat.{sub-zero}
 use native.Mathlib.Numerals.{add-one}
 use native.Mathlib.Omega.{arith}
-use mathlib.Core.Path.{_≡_, refl, ap, ap₂, sym, _∙_}
+use mathlib.Core.Path.{_≡_, refl, ap, ap₂, sym, _∙_, subst}
 use mathlib.Core.Bool.{Bool, true, false}
 use mathlib.Core.List.{List, [], _∷_, _++_, reverse, reverse-cons, reverse-append}
 use borrow.Author.Tests.{ltb-true, ltb-false}
@@ -123,8 +123,16 @@ module _ (cs block : List ℤ) {taps : List ℤ} {n : ℕ} (is : taps ≡ withZe
   pub taps-promise : (shift : ℕ) {out : List ℤ} → out ≡ predictedInPlace (take n taps) shift block → out ≡ predictedInPlace cs shift block
   taps-promise shift e = rw first-taps at e
 
--- ---- the arms of a match on the order: the last has what the others leave
+-- ---- the arms of a match on the order
 
+module _ (taps block : List ℤ) {n k : ℕ} (e : n ≡ k) where
+  pub arm-ask : Tapped taps n block → Tapped taps k block
+  arm-ask = subst (λ m. Tapped taps m block) e
+
+  pub arm-promise : (shift : ℕ) {out : List ℤ} → out ≡ predictedInPlace (take k taps) shift block → out ≡ predictedInPlace (take n taps) shift block
+  arm-promise shift {out} = subst (λ m. out ≡ predictedInPlace (take m taps) shift block) (sym e)
+
+-- none of k orders from the least on
 abbrev pub Others : ℕ → ℕ → ℕ → Type 0
 Others n least zero = Unit {0}
 Others n least (suc k) = Others n least k × (n ≡ least + k → ⊥)
@@ -133,6 +141,7 @@ others-left : (n least k : ℕ) → Others n least k → least ≤ n → least +
 others-left n least zero o h = omega arith
 others-left n least (suc k) o h = let g = others-left n least k (o .0) h in let d = o .1 in omega arith
 
+-- the last arm has the one order that the others leave
 pub last-order : (n least k : ℕ) → Others n least k → least ≤ n → n ≤ least + k → n ≡ least + k
 last-order n least k o h g = let e = others-left n least k o h in omega arith
 
