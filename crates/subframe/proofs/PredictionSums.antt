@@ -3,7 +3,7 @@ use Prim.Native.Nat.{ℕ, zero, suc, _+_, _-_, _^_, _≤_, _<_}
 use native.Mathlib.Nat.{sub-zero}
 use native.Mathlib.Numerals.{add-one}
 use native.Mathlib.Omega.{arith}
-use mathlib.Core.Path.{_≡_, refl, ap, ap₂, sym, _∙_}
+use mathlib.Core.Path.{_≡_, refl, ap, ap₂, sym, _∙_, subst}
 use mathlib.Core.Bool.{Bool, true, false}
 use mathlib.Core.List.{List, [], _∷_, _++_, reverse, reverse-cons, reverse-append}
 use borrow.Author.Tests.{ltb-true, ltb-false}
@@ -18,7 +18,7 @@ use mir.Facts.{toZ-ofZ}
 use Rattle.number.specs.Private.{Small}
 use Rattle.number.proofs.ProductSums.{DotSoFar, room, coefficient, step, sample-fits-33}
 use Rattle.rfc9639.specs.Prediction.{dot, fixedCoefficients}
-use Rattle.subframe.specs.Private.{withZeros, Predictable, predictedInPlace, FixedOrder}
+use Rattle.subframe.specs.Private.{withZeros, Predictable, Tapped, predictedInPlace, FixedOrder}
 
 -- ---- the latest sample first
 
@@ -64,22 +64,22 @@ dot-latest cs l m i h k g =
 
 -- ---- a loop over the products of the first `order` taps; the code passes a signed value by its bits
 
-module _ (taps before : List ℤ) {order acc j : ℕ} (inv : DotSoFar (take order taps) (reverse before) acc j) (some : order ≤ length taps)
-    (fit : Predictable 32 (take order taps) before) (i : ℕ) (next : j ≡ suc i) (c : SFits w32 (getD taps i (pos 0))) where
+module _ (taps before : List ℤ) {order acc j : ℕ} (inv : DotSoFar (take order taps) (reverse before) acc j) (fit : Tapped taps order before) (i : ℕ)
+    (next : j ≡ suc i) (c : SFits w32 (getD taps i (pos 0))) where
   enough : length (take order taps) ≤ length (reverse before)
   enough = omega (arith, length-reverse before)
 
   tap : getD (take order taps) i (pos 0) ≡ getD taps i (pos 0)
-  tap = getD-take order taps i (pos 0) (omega (arith, inv .within, length-take-le order taps some))
+  tap = getD-take order taps i (pos 0) (omega (arith, inv .within, length-take-le order taps (fit .0)))
 
   pub mul-add-asks : (natAbs (toZ w64 acc) < 2 ^ 62) × (natAbs (toZ w32 (ofZ w32 (getD taps i (pos 0)))) < 2 ^ 15)
-  mul-add-asks = (room inv (fit .0), rw (toZ-ofZ c, ← tap) (coefficient inv (fit .0) enough (fit .2) i next))
+  mul-add-asks = (room inv (fit .1 .0), rw (toZ-ofZ c, ← tap) (coefficient inv (fit .1 .0) enough (fit .1 .2) i next))
 
   pub turn : (k : ℕ) → k ≡ length before - 1 - i → SFits w32 (getD before k (pos 0)) → (r : ℤ)
       → r ≡ toZ w64 acc +ℤ toZ w32 (ofZ w32 (getD taps i (pos 0))) *ℤ toZ w32 (ofZ w32 (getD before k (pos 0))) → SFits w64 r
       → DotSoFar (take order taps) (reverse before) (ofZ w64 r) i
   turn k e f r h g =
-      step inv (fit .0) enough (fit .2) i next r
+      step inv (fit .1 .0) enough (fit .1 .2) i next r
       (h ∙ ap₂ (λ (a b : ℤ). toZ w64 acc +ℤ a *ℤ b) (toZ-ofZ c ∙ sym tap) (toZ-ofZ f ∙ sym there)) (rw there (sample-fits-33 f)) g
     where
       there : getD (reverse before) i (pos 0) ≡ getD before k (pos 0)
@@ -113,18 +113,26 @@ module _ {n : ℕ} {cs l : List ℤ} {j : ℕ} (inv : Padding n cs l j) where
       inv .same ∙ ap₂ (λ (t : List ℤ) m. t ++ replicate m (pos 0)) (take-all j cs h) (let e : n - j ≡ n - length cs = omega (arith, inv .within) in e)
 
 -- the coefficients are the first taps
-module _ (cs : List ℤ) {taps : List ℤ} {n : ℕ} (is : taps ≡ withZeros 32 cs) (long : length cs ≡ n) where
+module _ (cs block : List ℤ) {taps : List ℤ} {n : ℕ} (is : taps ≡ withZeros 32 cs) (long : length cs ≡ n) where
   first-taps : take n taps ≡ cs
   first-taps = ap (take n) is ∙ take-at cs (replicate (32 - length cs) (pos 0)) n long
 
-  pub taps-ask : (block : List ℤ) → Predictable 32 cs block → (n ≤ length taps) × Predictable 32 (take n taps) block
-  taps-ask block fit = (rw is (omega (arith, length-append cs (replicate (32 - length cs) (pos 0)))), rw first-taps fit)
+  pub taps-ask : Predictable 32 cs block → Tapped taps n block
+  taps-ask fit = (rw is (omega (arith, length-append cs (replicate (32 - length cs) (pos 0)))), rw first-taps fit)
 
-  pub taps-sum : {sum : ℤ} (xs : List ℤ) → sum ≡ dot (pos 0) (take n taps) xs → sum ≡ dot (pos 0) cs xs
-  taps-sum xs e = rw first-taps at e
+  pub taps-promise : (shift : ℕ) {out : List ℤ} → out ≡ predictedInPlace (take n taps) shift block → out ≡ predictedInPlace cs shift block
+  taps-promise shift e = rw first-taps at e
 
--- ---- the arms of a match on the order: the last has what the others leave
+-- ---- the arms of a match on the order
 
+module _ (taps block : List ℤ) {n k : ℕ} (e : n ≡ k) where
+  pub arm-ask : Tapped taps n block → Tapped taps k block
+  arm-ask = subst (λ m. Tapped taps m block) e
+
+  pub arm-promise : (shift : ℕ) {out : List ℤ} → out ≡ predictedInPlace (take k taps) shift block → out ≡ predictedInPlace (take n taps) shift block
+  arm-promise shift {out} = subst (λ m. out ≡ predictedInPlace (take m taps) shift block) (sym e)
+
+-- none of k orders from the least on
 abbrev pub Others : ℕ → ℕ → ℕ → Type 0
 Others n least zero = Unit {0}
 Others n least (suc k) = Others n least k × (n ≡ least + k → ⊥)
@@ -133,6 +141,7 @@ others-left : (n least k : ℕ) → Others n least k → least ≤ n → least +
 others-left n least zero o h = omega arith
 others-left n least (suc k) o h = let g = others-left n least k (o .0) h in let d = o .1 in omega arith
 
+-- the last arm has the one order that the others leave
 pub last-order : (n least k : ℕ) → Others n least k → least ≤ n → n ≤ least + k → n ≡ least + k
 last-order n least k o h g = let e = others-left n least k o h in omega arith
 

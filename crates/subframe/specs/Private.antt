@@ -89,9 +89,9 @@ StartsInWord RiceRead.Short = Unit {0}
 abbrev pub Predictable : ℕ → List ℤ → List ℤ → Type 0
 Predictable most coefficients block = (length coefficients ≤ most) × (length coefficients ≤ length block) × Small (2 ^ 15) coefficients
 
--- taps that hold the coefficients, of which there are `order`, and then zeros
-abbrev pub Tapped : List ℤ → List ℤ → ℕ → List ℤ → Type 0
-Tapped coefficients taps order block = (taps ≡ withZeros 32 coefficients) × (length coefficients ≡ order) × Predictable 32 coefficients block
+-- the first taps, as many as the order, are coefficients for the block
+abbrev pub Tapped : List ℤ → ℕ → List ℤ → Type 0
+Tapped taps order block = (order ≤ length taps) × Predictable 32 (take order taps) block
 
 -- a block that holds its warm-up samples and its residual, with the residual replaced by the samples
 abbrev pub predictedInPlace : List ℤ → ℕ → List ℤ → List ℤ

@@ -42,7 +42,7 @@ fn taps_of(coefficients: &[i32]) -> [i32; 32]
 // The sum of the products of the first `order` taps and the latest samples. The latest sample comes last, since the
 // others are known before it.
 fn dot(taps: &[i32; 32], order: usize, before: &[i32]) -> i64
-    requires { ⌜ (order ≤ length (now taps)) × Predictable 32 (take order (now taps)) (now before) ⌝ }
+    requires { ⌜ Tapped (now taps) order (now before) ⌝ }
     ensures { λ r. ⌜ (r ≡ dotOf (pos 0) (take order (now (taps .entry))) (reverse (now (before .entry)))) × (natAbs r < 2 ^ 62) ⌝ }
 {
     let mut sum: i64 = 0;
@@ -54,17 +54,10 @@ fn dot(taps: &[i32; 32], order: usize, before: &[i32]) -> i64
     sum
 }
 
-// By the first `order` taps, which hold the coefficients: these are here for the contract alone. Each call has a
-// constant for the order, so the sum of each sample is straight code.
-fn predict_by_taps(
-    coefficients: &[i32],
-    taps: &[i32; 32],
-    order: usize,
-    shift: u32,
-    out: &mut [i32],
-)
-    requires { ⌜ Tapped (now coefficients) (now taps) order (now out) ⌝ }
-    ensures { λ r. ⌜ now (out .exit) ≡ predictedInPlace (now (coefficients .entry)) shift (now (out .entry)) ⌝ }
+// By the first `order` taps. Each call has a constant for the order, so the sum of each sample is straight code.
+fn predict_by_taps(taps: &[i32; 32], order: usize, shift: u32, out: &mut [i32])
+    requires { ⌜ Tapped (now taps) order (now out) ⌝ }
+    ensures { λ r. ⌜ now (out .exit) ≡ predictedInPlace (take order (now (taps .entry))) shift (now (out .entry)) ⌝ }
 {
     let mut i = order;
     while i < out.len() {
@@ -74,26 +67,63 @@ fn predict_by_taps(
     }
 }
 
+// By an order of at most 12, as a constant.
+fn predict_to_12(taps: &[i32; 32], order: usize, shift: u32, out: &mut [i32])
+    requires { ⌜ (order ≤ 12) × Tapped (now taps) order (now out) ⌝ }
+    ensures { λ r. ⌜ now (out .exit) ≡ predictedInPlace (take order (now (taps .entry))) shift (now (out .entry)) ⌝ }
+{
+    match order {
+        0 => predict_by_taps(taps, 0, shift, out),
+        1 => predict_by_taps(taps, 1, shift, out),
+        2 => predict_by_taps(taps, 2, shift, out),
+        3 => predict_by_taps(taps, 3, shift, out),
+        4 => predict_by_taps(taps, 4, shift, out),
+        5 => predict_by_taps(taps, 5, shift, out),
+        6 => predict_by_taps(taps, 6, shift, out),
+        7 => predict_by_taps(taps, 7, shift, out),
+        8 => predict_by_taps(taps, 8, shift, out),
+        9 => predict_by_taps(taps, 9, shift, out),
+        10 => predict_by_taps(taps, 10, shift, out),
+        11 => predict_by_taps(taps, 11, shift, out),
+        _ => predict_by_taps(taps, 12, shift, out),
+    }
+}
+
 // For an order of at most 12, as in nearly all streams.
 fn predict_lpc_low_order(coefficients: &[i32], shift: u32, out: &mut [i32])
     requires { ⌜ Predictable 12 (now coefficients) (now out) ⌝ }
     ensures { λ r. ⌜ now (out .exit) ≡ predictedInPlace (now (coefficients .entry)) shift (now (out .entry)) ⌝ }
 {
     let taps = taps_of(coefficients);
-    match coefficients.len() {
-        0 => predict_by_taps(coefficients, &taps, 0, shift, out),
-        1 => predict_by_taps(coefficients, &taps, 1, shift, out),
-        2 => predict_by_taps(coefficients, &taps, 2, shift, out),
-        3 => predict_by_taps(coefficients, &taps, 3, shift, out),
-        4 => predict_by_taps(coefficients, &taps, 4, shift, out),
-        5 => predict_by_taps(coefficients, &taps, 5, shift, out),
-        6 => predict_by_taps(coefficients, &taps, 6, shift, out),
-        7 => predict_by_taps(coefficients, &taps, 7, shift, out),
-        8 => predict_by_taps(coefficients, &taps, 8, shift, out),
-        9 => predict_by_taps(coefficients, &taps, 9, shift, out),
-        10 => predict_by_taps(coefficients, &taps, 10, shift, out),
-        11 => predict_by_taps(coefficients, &taps, 11, shift, out),
-        _ => predict_by_taps(coefficients, &taps, 12, shift, out),
+    predict_to_12(&taps, coefficients.len(), shift, out);
+}
+
+// By an order from 13 to 32, as a constant.
+fn predict_to_32(taps: &[i32; 32], order: usize, shift: u32, out: &mut [i32])
+    requires { ⌜ (12 < order) × Tapped (now taps) order (now out) ⌝ }
+    ensures { λ r. ⌜ now (out .exit) ≡ predictedInPlace (take order (now (taps .entry))) shift (now (out .entry)) ⌝ }
+{
+    match order {
+        13 => predict_by_taps(taps, 13, shift, out),
+        14 => predict_by_taps(taps, 14, shift, out),
+        15 => predict_by_taps(taps, 15, shift, out),
+        16 => predict_by_taps(taps, 16, shift, out),
+        17 => predict_by_taps(taps, 17, shift, out),
+        18 => predict_by_taps(taps, 18, shift, out),
+        19 => predict_by_taps(taps, 19, shift, out),
+        20 => predict_by_taps(taps, 20, shift, out),
+        21 => predict_by_taps(taps, 21, shift, out),
+        22 => predict_by_taps(taps, 22, shift, out),
+        23 => predict_by_taps(taps, 23, shift, out),
+        24 => predict_by_taps(taps, 24, shift, out),
+        25 => predict_by_taps(taps, 25, shift, out),
+        26 => predict_by_taps(taps, 26, shift, out),
+        27 => predict_by_taps(taps, 27, shift, out),
+        28 => predict_by_taps(taps, 28, shift, out),
+        29 => predict_by_taps(taps, 29, shift, out),
+        30 => predict_by_taps(taps, 30, shift, out),
+        31 => predict_by_taps(taps, 31, shift, out),
+        _ => predict_by_taps(taps, 32, shift, out),
     }
 }
 
@@ -103,28 +133,7 @@ fn predict_lpc_high_order(coefficients: &[i32], shift: u32, out: &mut [i32])
     ensures { λ r. ⌜ now (out .exit) ≡ predictedInPlace (now (coefficients .entry)) shift (now (out .entry)) ⌝ }
 {
     let taps = taps_of(coefficients);
-    match coefficients.len() {
-        13 => predict_by_taps(coefficients, &taps, 13, shift, out),
-        14 => predict_by_taps(coefficients, &taps, 14, shift, out),
-        15 => predict_by_taps(coefficients, &taps, 15, shift, out),
-        16 => predict_by_taps(coefficients, &taps, 16, shift, out),
-        17 => predict_by_taps(coefficients, &taps, 17, shift, out),
-        18 => predict_by_taps(coefficients, &taps, 18, shift, out),
-        19 => predict_by_taps(coefficients, &taps, 19, shift, out),
-        20 => predict_by_taps(coefficients, &taps, 20, shift, out),
-        21 => predict_by_taps(coefficients, &taps, 21, shift, out),
-        22 => predict_by_taps(coefficients, &taps, 22, shift, out),
-        23 => predict_by_taps(coefficients, &taps, 23, shift, out),
-        24 => predict_by_taps(coefficients, &taps, 24, shift, out),
-        25 => predict_by_taps(coefficients, &taps, 25, shift, out),
-        26 => predict_by_taps(coefficients, &taps, 26, shift, out),
-        27 => predict_by_taps(coefficients, &taps, 27, shift, out),
-        28 => predict_by_taps(coefficients, &taps, 28, shift, out),
-        29 => predict_by_taps(coefficients, &taps, 29, shift, out),
-        30 => predict_by_taps(coefficients, &taps, 30, shift, out),
-        31 => predict_by_taps(coefficients, &taps, 31, shift, out),
-        _ => predict_by_taps(coefficients, &taps, 32, shift, out),
-    }
+    predict_to_32(&taps, coefficients.len(), shift, out);
 }
 
 // The order, from 1 to 3, of the fixed predictor that has these coefficients and this shift, or 0 for any other.

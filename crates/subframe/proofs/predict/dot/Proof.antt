@@ -43,7 +43,7 @@ shared-slice-copy-out-mul-add c = search needs
 mul-add-requires : tie.Need-mul-add-requires Inv-loop μ-loop
 mul-add-requires c κs =
     let l = c .before .before .before in let s = l .before in
-    mul-add-asks (s .args .taps .now) (s .args .before .now) (l .loop .inv) (s .pre .0) (s .pre .1) _ (omega arith) (record { sfits = search needs })
+    mul-add-asks (s .args .taps .now) (s .args .before .now) (l .loop .inv) (s .pre) _ (omega arith) (record { sfits = search needs })
 
 loop-less : tie.Need-loop-less Inv-loop μ-loop
 loop-less c = search needs
@@ -51,7 +51,7 @@ loop-less c = search needs
 loop-again : tie.Need-loop-again Inv-loop μ-loop
 loop-again c =
     let l = c .before .before .before .before in let s = l .before in
-    turn (s .args .taps .now) (s .args .before .now) (l .loop .inv) (s .pre .0) (s .pre .1) _ (omega arith) (record { sfits = search needs }) _ refl
+    turn (s .args .taps .now) (s .args .before .now) (l .loop .inv) (s .pre) _ (omega arith) (record { sfits = search needs }) _ refl
     (record { sfits = search needs }) _ (c .mul-add .ensures) (record { sfits = c .mul-add .ok })
 
 returns : tie.Need-returns Inv-loop μ-loop

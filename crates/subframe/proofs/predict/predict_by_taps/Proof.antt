@@ -1,26 +1,29 @@
 -- `predict_by_taps`: each turn restores one sample (Restored). Assumes nothing.
 use Prim.Native.Nat.{_-_}
 use native.Mathlib.Omega.{arith}
-use mathlib.Core.Path.{_∙_}
+use mathlib.Core.Path.{_≡_, _∙_}
 use borrow.Author.Needs.{needs}
 use borrow.Rule.Slice.PartMut.{mid-len}
-use lib.ListN.{length, take, drop}
+use lib.ListN.{length, take}
+use lib.Seq.{length-take-le}
 use mir.Syntax.{w64}
 use mir.Val.{SFits}
 use mir.Facts.{toZ-ofZ}
-use Rattle.subframe.proofs.PredictionSums.{taps-ask, taps-sum}
 use Rattle.subframe.proofs.PredictionInPlace.{Restored, begin, turn, end, resumed-predict}
 use Rattle.subframe.proofs.predict.predict_by_taps.Statement.{statement}
 use Rattle.subframe.proofs.predict.predict_by_taps.Tie as tie
 
 abbrev Inv-loop : tie.InvT-loop
-Inv-loop coefficients taps order shift out₀ i₀ out i = Restored coefficients shift out₀ order out i
+Inv-loop taps order shift out₀ i₀ out i = Restored (take order taps) shift out₀ order out i
 
 abbrev μ-loop : tie.MeasureT-loop
-μ-loop coefficients taps order shift out₀ i₀ out i = length out₀ - i
+μ-loop taps order shift out₀ i₀ out i = length out₀ - i
+
+as-many : (c : tie.Start Inv-loop μ-loop) → length (take (c .args .order) (c .args .taps .now)) ≡ c .args .order
+as-many c = length-take-le (c .args .order) (c .args .taps .now) (c .pre .0)
 
 loop-holds : tie.Need-loop-holds Inv-loop μ-loop
-loop-holds c = begin _ _ _ _ (omega arith)
+loop-holds c = begin _ _ _ _ (omega (arith, as-many c))
 
 sub-dot : tie.Need-sub-dot Inv-loop μ-loop
 sub-dot c = search needs
@@ -39,10 +42,14 @@ part-dot-end c = search needs
 
 dot-requires : tie.Need-dot-requires Inv-loop μ-loop
 dot-requires c κs =
-    let l = c .before .before .before in let s = l .before in
-    taps-ask (s .args .coefficients .now) (s .pre .0) (s .pre .1)
-    (take (l .loop .i - (l .loop .i - s .args .order)) (drop (l .loop .i - s .args .order) (l .loop .out)))
-    (s .pre .2 .0, omega (arith, mid-len (l .loop .i - s .args .order) (l .loop .i) (l .loop .out) (l .loop .inv .within), l .loop .inv .least), s .pre .2 .2)
+    let l = c .before .before .before in let s = l .before in (
+      s .pre .0,
+      (
+        s .pre .1 .0,
+        omega (arith, as-many s, mid-len (l .loop .i - s .args .order) (l .loop .i) (l .loop .out) (l .loop .inv .within), l .loop .inv .least),
+        s .pre .1 .2,
+      ),
+    )
 
 mul-restore : tie.Need-mul-restore Inv-loop μ-loop
 mul-restore c = search needs
@@ -56,8 +63,8 @@ sum-fits c = record { sfits = c .dot .ok }
 restore-requires : tie.Need-restore-requires Inv-loop μ-loop
 restore-requires c κs = rw (toZ-ofZ (sum-fits (c .before))) (c .before .dot .ensures .1)
 
-mul-t12 : tie.Need-mul-t12 Inv-loop μ-loop
-mul-t12 c = search needs
+mul-t11 : tie.Need-mul-t11 Inv-loop μ-loop
+mul-t11 c = search needs
 
 slice-set-from-out : tie.Need-slice-set-from-out Inv-loop μ-loop
 slice-set-from-out c = search needs
@@ -70,15 +77,15 @@ loop-less c = search needs
 
 loop-again : tie.Need-loop-again Inv-loop μ-loop
 loop-again c =
-    let d = c .before .before in let l = d .before .before .before .before in let s = l .before in
-    turn (l .loop .inv) (s .pre .1) _ _ (omega arith) (taps-sum (s .args .coefficients .now) (s .pre .0) (s .pre .1) _ (d .dot .ensures .0)) (c .restore .ensures)
-    (sum-fits d) (record { sfits = search needs }) (record { sfits = c .restore .ok })
+    let d = c .before .before in let l = d .before .before .before .before in
+    turn (l .loop .inv) (as-many (l .before)) _ _ (omega arith) (d .dot .ensures .0) (c .restore .ensures) (sum-fits d) (record { sfits = search needs })
+    (record { sfits = c .restore .ok })
 
 same-length : tie.Need-same-length Inv-loop μ-loop
 same-length c = search needs
 
 returns : tie.Need-returns Inv-loop μ-loop
-returns c = end (c .before .loop .inv) (omega arith) ∙ resumed-predict _ _ _ _ (c .before .before .pre .1)
+returns c = end (c .before .loop .inv) (omega arith) ∙ resumed-predict _ _ _ _ (as-many (c .before .before))
 
 pub predict-by-taps-spec : {M : Type 1} → statement M
 predict-by-taps-spec =
@@ -96,7 +103,7 @@ predict-by-taps-spec =
     mul-restore
     slice-copy-out-restore
     restore-requires
-    mul-t12
+    mul-t11
     slice-set-from-out
     add-i
     loop-less

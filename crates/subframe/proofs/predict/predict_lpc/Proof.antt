@@ -1,4 +1,4 @@
--- `predict_lpc`: a fixed order was found by its coefficients; the others go by the number of coefficients. Assumes nothing.
+-- `predict_lpc`: a fixed order by its coefficients, any other by their number. Assumes nothing.
 use borrow.Author.Needs.{needs}
 use Rattle.subframe.proofs.PredictionSums.{fixed-ask, fixed-promise}
 use Rattle.subframe.proofs.predict.predict_lpc.Statement.{statement}
