@@ -1,6 +1,7 @@
 // Bits of a slice at a place: claxon's input.rs, with a slice and a place by value instead of a stream. Each function
-// answers on every argument: `read_bits` and `read_unary` with what the definition's question (crates/reading) gets from
-// these bytes at that place, `word_from` with a word of them. Bits are read most significant first (RFC 9639 section 5).
+// answers on every argument: `read_bits` and `read_unary` with what the definition's question (crates/reading) gets
+// from these bytes at that place, `word_from` with a word of them. Bits are read most significant first (RFC 9639
+// section 5).
 use reading::Place;
 use reading::is_inside;
 ghost use mathlib.Core.Path.{_≡_};

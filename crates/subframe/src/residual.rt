@@ -116,9 +116,9 @@ fn code_at_top(w: u64, top: u32, k: u32) -> i32
     signed::unfold(folded((63 - top) as u64, x - (1u64 << k), k))
 }
 
-// The same, quickly: nearly every code ends before the last bit of the word from the byte on, and its parts are parts of
-// that word. The first shift drops the bits before the code. The byte is where the code before starts: it does not depend
-// on that code's length, so the machine loads the word early.
+// The same, quickly: nearly every code ends before the last bit of the word from the byte on, and is cut out of that
+// word. The first shift drops the bits before the code. The byte is where the code before starts: it does not depend on
+// that code's length, so the machine loads the word early.
 fn read_rice(s: &[u8], at: BitOffset, k: u32) -> RiceRead
     requires { ⌜ (k ≤ 31) × (at .byte ≤ length (now s)) × (at .bits < 64) ⌝ }
     ensures { λ r. ⌜ (riceReadAt r ≡ runAt (rice k) (now (s .entry)) (placeAfter at)) × StartsInWord r ⌝ }
