@@ -59,11 +59,11 @@ count_compared() { # STATUS SCRIPT LOG
 }
 
 # rt starts RT_JOBS checks at a time and waits for all of them: with one job more than there are processors, none of
-# these is idle for long. With more jobs than that, each takes longer, since they share the caches. A check takes less
-# than a gigabyte.
+# these is idle for long. With more jobs than that, each takes longer, since they share the caches. The largest check
+# takes 2.3 gigabytes.
 if [ -z "${RT_JOBS:-}" ]; then
     most=$(($(nproc 2>/dev/null || echo 1) + 1))
-    RT_JOBS=$(awk -v most="$most" '/^MemAvailable/ { n = int($2 / 1500000); print (n > most ? most : n < 1 ? 1 : n) }' \
+    RT_JOBS=$(awk -v most="$most" '/^MemAvailable/ { n = int($2 / 2500000); print (n > most ? most : n < 1 ? 1 : n) }' \
         /proc/meminfo)
     export RT_JOBS
 fi
