@@ -1,5 +1,5 @@
 """Builds frames of any kind, with legal and most illegal subframes, and with correct check sums."""
-from model import FIXED, crc, low32
+from model import FIXED, crc, low32, signed
 
 
 class Bits:
@@ -67,12 +67,20 @@ def verbatim(xs, w, wasted=0):
     return s
 
 
-def residual(rs, n, warm, method=0, order=0, parameters=None, extra=0):
-    """Each quotient is increased by `extra` times 2^(32 - parameter), which the reader drops."""
+def residual(rs, n, warm, method=0, order=0, parameters=None, extra=0, widths={}):
+    """Each quotient is increased by `extra` times 2^(32 - parameter), which the reader drops. The partitions in `widths`
+    are escaped, and store their residuals in so many bits."""
     s = Bits().put(method, 2).put(order, 4)
     size, at = n >> order, 0
     for i in range(1 << order):
         count = size - warm if i == 0 else size
+        if i in widths:
+            s.put((16 << method) - 1, 4 + method).put(widths[i], 5)
+            for r in rs[at : at + count]:
+                assert r == signed(widths[i], mask(r, widths[i]))
+                s.put(mask(r, widths[i]), widths[i])
+            at += count
+            continue
         k = (parameters or [2])[i % len(parameters or [2])]
         s.put(k, 4 + method)
         for r in rs[at : at + count]:

@@ -67,10 +67,7 @@ def refused():
     yield "method-3", one(h4, start(8).put(3, 2).put(0, 4))
     yield "no-multiple", one(header(size=3, bits=8), start(8).put(0, 2).put(1, 4))
     yield "warm-up-over-partition", one(h4, start(10).put(1, 8).put(2, 8).put(0, 2).put(2, 4))
-    yield "parameter-15", one(header(size=2, bits=8), start(10).put(1, 8).put(2, 8).put(0, 6).put(15, 4))
-    yield "parameter-31", one(header(size=2, bits=8), start(10).put(1, 8).put(2, 8).put(1, 2).put(0, 4).put(31, 5))
     yield "frame-sum", frame(h, [constant(5, 16)], wrong=1)
-    yield "rfc-3", RFC3
     yield "largest-block", frame(header(size=65535), [constant(-5, 16)])
     yield "largest-block-eight-channels", frame(header(size=65535, channels=7, bits=24), [constant(c, 24) for c in range(8)])
 
@@ -125,6 +122,62 @@ def claxon_sides():
         yield f"claxon-{name}-side", data
 
 
+def escaped_by_width(width, method):
+    """A frame of 16 samples of 24 bits in two partitions. The residuals of the first are escaped, and among them are
+    the smallest and the largest number of the width; those of the second are Rice codes. Over 24 bits, a linear
+    predictor makes such residuals of samples that fit."""
+    rest = [5, -6, 0, 7, -1, 2, -3, 4]
+    least, most = -(1 << width >> 1), (1 << width >> 1) - 1
+    head = header(size=16, bits=24, number=width)
+    options = dict(method=method, order=1, parameters=[9], widths={0: width})
+    if width == 0:
+        return frame(head, [fixed([3 * i - 20 for i in range(8)] + rest, 24, 2, **options)])
+    if width <= 24:
+        return frame(head, [fixed([least, most, -1, 0, most, least, most >> 1, least >> 1] + rest, 24, 0, **options)])
+    p = width - 22
+    xs = [(1 << 21) + (1 << 21 - p), -(1 << 21) - 1, 1 << p, 0, -1, 1, 0, -2] + rest
+    assert build.predicted(xs, [-(1 << p)], 0)[:2] == [most, least]
+    return frame(head, [lpc(xs, 24, [-(1 << p)], 0, 15, **options)])
+
+
+def escaped_in_all(method):
+    """Two channels, in whose partitions escaped ones and Rice codes take turns, with and without wasted bits."""
+    ramp = [3 * i - 20 for i in range(16)]
+    left = fixed([x + x * x // 7 for x in ramp], 16, 1, method=method, order=2, parameters=[3], widths={0: 9, 2: 11})
+    right = fixed(ramp, 16, 2, wasted=3, method=method, order=3, parameters=[1], widths={1: 0, 4: 1, 5: 2, 7: 31})
+    return frame(header(size=16, channels=1), [left, right])
+
+
+def escaped_head(method, bits):
+    """A frame whose only partition is escaped, and the number of its bytes up to the byte that ends after so many bits
+    of the partition's head: the parameter and the width."""
+    wasted = -(14 + bits) % 8
+    xs = [1, -1, 3, -4, 0, 2, -2, 1, 1, 0, -3, 2, 3, -4, 1, -1]
+    head = header(size=16)
+    data = frame(head, [fixed(xs, 16, 0, wasted=wasted, method=method, widths={0: 3})])
+    return data, len(head) + (14 + wasted + bits) // 8
+
+
+def escaped():
+    """Partitions whose residuals are stored as they are: every width with its extremes, in both methods; all ones among
+    Rice codes; first partitions without residuals; and each cut inside of a partition's head."""
+    for method in (0, 1):
+        for width in range(32):
+            yield f"escaped-method-{method}-width-{width}", escaped_by_width(width, method)
+        yield f"escaped-mixed-{method}", escaped_in_all(method)
+        for width in (0, 1, 17, 31):
+            xs = [5, -7, 100, 3, 9, 8, -80, 2, 0, 0, 1, 60, -3, 4, 4, 4]
+            data = frame(header(size=16), [fixed(xs, 16, 4, method=method, order=2, parameters=[6], widths={0: width})])
+            yield f"escaped-none-{method}-width-{width}", data
+        for bits in range(4 + method + 5 + 1):
+            data, cut = escaped_head(method, bits)
+            yield f"escaped-head-{method}-{bits}", data
+            yield f"escaped-head-{method}-{bits}-cut", data[:cut]
+    # Without the width of its partition, which has no residuals, the last two bytes would be the CRC-16.
+    none = header(size=2, bits=8) + start(10, 2).put(1, 6).put(2, 6).put(0, 6).put(15, 4).bytes()
+    yield "escaped-none-cut", none + model.crc(none, 16, 0x8005).to_bytes(2, "big")
+
+
 def differences():
     """The inputs of docs/DIFFERENCES.md, on which claxon, the RFC and this reader differ."""
     for line in open("../docs/DIFFERENCES.md"):
@@ -134,20 +187,20 @@ def differences():
 
 
 def sound(frames):
-    """The samples of these frames as a stream's MD5 takes them: interleaved, 16 bits each."""
+    """The samples of these frames as a stream's MD5 takes them: interleaved, in whole bytes."""
     out = b""
     for data in frames:
         r, xs = model.read(data, [0] * 64)
         assert r[:2] == (0, len(data))
-        out += b"".join(model.little(xs[c * r[5] + t], 2) for t in range(r[5]) for c in range(r[3]))
+        out += b"".join(model.little(xs[c * r[5] + t], r[4] // 8) for t in range(r[5]) for c in range(r[3]))
     return out
 
 
 def published():
-    """The frames of RFC 9639's appendix D. The samples of D.1 and D.2 have the MD5 that their streams give; D.3 has an
-    escaped partition, which is not supported."""
+    """The frames of RFC 9639's appendix D. Their samples have the MD5 that their streams give."""
     assert hashlib.md5(sound([WHOLE])).hexdigest() == "3e84b41807dc690307586a3dad1a2e0f"
     assert hashlib.md5(sound(D2)).hexdigest() == "d5b0564975e98b8d8b930422757b8103"
+    assert hashlib.md5(sound([RFC3])).hexdigest() == "f8f9e396f5cbcfc6dc807f9977906b32"
     yield "rfc9639-d1", WHOLE
     yield "rfc9639-d2", D2[0] + D2[1]
     yield "rfc9639-d2-first", D2[0]
@@ -201,6 +254,7 @@ def runner_cases():
     yield from refused()
     yield from accepted(rng)
     yield from claxon_sides()
+    yield from escaped()
     yield from differences()
     yield from cuts("whole", WHOLE)
     yield from cuts("flac", FLAC)
@@ -219,6 +273,11 @@ def probe_cases():
     for name, data in [("frame", WHOLE), ("frame-sum", WHOLE[:-1] + b"\x00"), ("cut", WHOLE[:-1]), ("flac", FLAC)]:
         for room in (0, 1, 2, 3, 31, 32, 33):
             yield f"{name}-room-{room}", at(room, 7) + data
+    for room in (23, 24, 25):
+        yield f"escaped-room-{room}", at(room, 7) + RFC3
+    # RFC 9639's escaped partition starts at bit 134; its head has nine bits.
+    for n in range(16, 19):
+        yield f"escaped-cut-{n}", at(25, 7) + RFC3[:n]
     yield "room-65537", at(65537, 1) + WHOLE
     yield "fill-least", at(3, -(1 << 31)) + WHOLE
     yield "no-input", b""

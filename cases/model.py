@@ -108,8 +108,12 @@ def residual(s, warm, n):
     out = []
     for i in range(1 << order):
         k = s.bits(4 + method)
-        require(k != (16 << method) - 1, 8)
-        for _ in range(size - warm if i == 0 else size):
+        count = size - warm if i == 0 else size
+        if k == (16 << method) - 1:
+            width = s.bits(5)
+            out += [signed(width, s.bits(width)) for _ in range(count)]
+            continue
+        for _ in range(count):
             q = s.zeros()
             f = ((q << k) + s.bits(k)) % (1 << 32)
             out.append(f // 2 if f % 2 == 0 else -1 - f // 2)

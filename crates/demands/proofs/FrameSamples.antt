@@ -19,7 +19,7 @@ use Rattle.rfc9639.specs.declared.FrameHeader.{FrameHeader}
 use Rattle.rfc9639.specs.Integers.{shiftUp, signedBits}
 use Rattle.rfc9639.specs.HeaderCodes.{channelCount}
 use Rattle.rfc9639.specs.Header.{sampleCount}
-use Rattle.rfc9639.specs.Residual.{rice, codedResiduals, partition, partitionSizes, residual}
+use Rattle.rfc9639.specs.Residual.{rice, escaped, codedResiduals, partition, partitionSizes, residual}
 use Rattle.rfc9639.specs.Prediction.{restored, predict}
 use Rattle.rfc9639.specs.Subframe.{subframeType, wastedBits, checkedWastedBits, kindAndWasted, subframeHeader, orderOf, fixed, quantization, lpcAfterShift, lpc, samplesByType, subframeAfterHeader, subframe}
 use Rattle.rfc9639.specs.Stereo.{rightOf, leftOf, doubled, leftOfMid, rightOfMid, pairwise, leftAndRight}
@@ -53,9 +53,13 @@ rice-holds : (k : ℕ) → Holds Late Some (rice k)
 unfolding rice
 rice-holds k = holds-bind _ holds-zeros (λ q _. holds-bind _ (holds-bits k) (λ r _. value tt))
 
+escaped-holds : (n : ℕ) → Holds Late (Sized n Some) (escaped n)
+unfolding escaped
+escaped-holds n = holds-bind _ (holds-bits 5) (λ w _. holds-many n (signedBits-holds w))
+
 partition-holds : (method n : ℕ) → Holds Late (Sized n Some) (partition method n)
 unfolding partition codedResiduals
-partition-holds method n = holds-bind _ (holds-bits (4 + method)) (λ k _. holds-if (eqb k (2 ^ (4 + method) - 1)) (λ _. refusal not-done) (λ _. holds-many n (rice-holds k)))
+partition-holds method n = holds-bind _ (holds-bits (4 + method)) (λ k _. holds-if (eqb k (2 ^ (4 + method) - 1)) (λ _. escaped-holds n) (λ _. holds-many n (rice-holds k)))
 
 every-of : {A : Type 0} {P : A → Type 0} → ((a : A) → P a) → (xs : List A) → Every P xs
 every-of h [] = tt

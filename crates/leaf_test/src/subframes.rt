@@ -90,9 +90,14 @@ pub fn partition_boundaries() {
     data[10] = 0x03;
     run(&data, 0, 1034, 16, 4096);
     let s: &[u8] = b"\x48\x00\x01\x00\x02\x00\x03\x00\x04\x00\x05\x10\x00\x05\x00\
-        \x10\x04\x00";
+        \x10\x04\x00\
+        \x12\x05\x03\xc7\x58\x00\
+        \x12\x05\x43\xe0\x00\x00";
     run(s, 0, 15, 16, 4096);
     run(s, 15, 18, 16, 4095);
+    // escaped partitions: of three bits, and of none
+    run(s, 18, 24, 8, 3);
+    run(s, 24, 30, 8, 3);
 }
 
 pub fn refusals() {
@@ -102,8 +107,6 @@ pub fn refusals() {
         \x10\x80\x00\
         \x40\x05\xf0\x00\x00\x00\
         \x40\x05\x38\x00\x00\x00\
-        \x12\x05\x03\xc0\x00\x00\
-        \x12\x05\x43\xe0\x00\x00\
         \x01\x01\x00\x00\
         \x18\x00\x00\x00\x00\x00\x00\x00\x00\
         \x14\x05\x06\x08\x00\x00\
@@ -114,13 +117,11 @@ pub fn refusals() {
     run(s, 5, 7, 8, 2);
     run(s, 7, 10, 8, 2);
     run(s, 10, 16, 8, 3);
-    // a negative shift, and residuals stored as they are
+    // a negative shift
     run(s, 16, 22, 8, 3);
-    run(s, 22, 28, 8, 3);
-    run(s, 28, 34, 8, 3);
     // sizes that contradict each other, and a width over 32
-    run(s, 34, 38, 8, 2);
-    run(s, 38, 47, 8, 3);
-    run(s, 47, 53, 8, 4);
-    run(s, 53, 59, 33, 2);
+    run(s, 22, 26, 8, 2);
+    run(s, 26, 35, 8, 3);
+    run(s, 35, 41, 8, 4);
+    run(s, 41, 47, 33, 2);
 }

@@ -59,8 +59,8 @@ pub record Ordered : Type 0 where
   pub method-2 : clears (hex 9 0xfff8600200033510_bc) 4 4 4
   pub no-multiple : clears (hex 9 0xfff8600200023210_04) 4 3 9
   pub warm-up-over-partition : clears (hex 11 0xfff8600200033514_010208) 4 4 9
-  -- the escape parameter is refused even in a partition without residuals
-  pub parameter-15-of-none : clears (hex 12 0xfff8600200013b14_010203c0) 4 2 8
+  -- an escaped partition has its width even if it has no residuals: the last two bytes would be the CRC-16 without it
+  pub width-of-none : clears (hex 13 0xfff8600200013b15_41080f76bf) 4 2 2
   pub frame-sum : clears (hex 12 0xfff860080000bb00_0005483d) 2 1 10
   pub sum-cut : clears (hex 11 0xfff860080000bb00_000548) 2 1 2
 
@@ -100,7 +100,7 @@ ordered = record {
   method-2 = refl;
   no-multiple = refl;
   warm-up-over-partition = refl;
-  parameter-15-of-none = refl;
+  width-of-none = refl;
   frame-sum = refl;
   sum-cut = refl;
 }

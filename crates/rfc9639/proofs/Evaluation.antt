@@ -10,7 +10,7 @@ use Rattle.rfc9639.specs.Integers.{signed, low, wrapped, shiftDown, shif
 use Rattle.rfc9639.specs.Number.{withFollowers, numberFrom, codedNumber}
 use Rattle.rfc9639.specs.HeaderCodes.{assignment, bitDepth, blockSize, rateBits, channelCount, sizeCode, sizeBits, bitsCode}
 use Rattle.rfc9639.specs.Header.{timeOf, sync, sizeAndRate, depthAndZero, channelsAndBits, codes, blockTime, headerSum, headerAfterCodes, header, sampleCount, firstSample}
-use Rattle.rfc9639.specs.Residual.{unfolded, folded, rice, codedResiduals, partition, partitionSizes, residual}
+use Rattle.rfc9639.specs.Residual.{unfolded, folded, rice, escaped, codedResiduals, partition, partitionSizes, residual}
 use Rattle.rfc9639.specs.Prediction.{dot, predicted, restored, predict, fixedCoefficients}
 use Rattle.rfc9639.specs.Subframe.{subframeType, wastedBits, checkedWastedBits, kindAndWasted, subframeHeader, orderOf, fixed, quantization, lpcAfterShift, lpc, samplesByType, subframeAfterHeader, subframe}
 use Rattle.rfc9639.specs.Stereo.{rightOf, leftOf, doubled, leftOfMid, rightOfMid, pairwise, leftAndRight}
@@ -31,7 +31,7 @@ minus n = negℤ (pos n)
 
 -- to unfold this is to unfold the whole definition of reading
 unfoldable pub computed : List ℕ → List ℤ → Outcome
-unfolding _>>=_ bits zeros passed require many each bitsFrom zerosFrom reply follow run bitsOfByte bitsOfBytes runAt inside toAt crcBit crcBits crc8 crc16 signed low wrapped shiftDown shiftUp signedBits withFollowers numberFrom codedNumber assignment bitDepth blockSize rateBits timeOf sync sizeAndRate depthAndZero channelsAndBits codes blockTime headerSum headerAfterCodes header channelCount sampleCount firstSample unfolded folded rice codedResiduals partition partitionSizes residual dot predicted restored predict fixedCoefficients subframeType wastedBits checkedWastedBits kindAndWasted subframeHeader orderOf fixed quantization lpcAfterShift lpc samplesByType subframeAfterHeader subframe rightOf leftOf doubled leftOfMid rightOfMid pairwise leftAndRight opening widths padding footer body frame refusal accepted untouched zeroed cutShort begun finished resultOf result read
+unfolding _>>=_ bits zeros passed require many each bitsFrom zerosFrom reply follow run bitsOfByte bitsOfBytes runAt inside toAt crcBit crcBits crc8 crc16 signed low wrapped shiftDown shiftUp signedBits withFollowers numberFrom codedNumber assignment bitDepth blockSize rateBits timeOf sync sizeAndRate depthAndZero channelsAndBits codes blockTime headerSum headerAfterCodes header channelCount sampleCount firstSample unfolded folded rice escaped codedResiduals partition partitionSizes residual dot predicted restored predict fixedCoefficients subframeType wastedBits checkedWastedBits kindAndWasted subframeHeader orderOf fixed quantization lpcAfterShift lpc samplesByType subframeAfterHeader subframe rightOf leftOf doubled leftOfMid rightOfMid pairwise leftAndRight opening widths padding footer body frame refusal accepted untouched zeroed cutShort begun finished resultOf result read
 computed s b = read s b
 
 -- and this, of writing

@@ -16,8 +16,12 @@ pub record Published : Type 0 where
   -- .. and the second has two independent channels of three samples
   pub rfc-2b : read (hex 23 0xfff869180102a402_c382c40bc14a03ee_48dd03b67c1330) (replicate 7 (pos 7))
       ≡ record { report = record { number = 0; consumed = 23; first = 3; channels = 2; bits = 16; size = 3 }; buffer = minus 15486 ∷ minus 15349 ∷ minus 16054 ∷ minus 9072 ∷ minus 8958 ∷ minus 9410 ∷ pos 7 ∷ [] }
-  -- RFC 9639, appendix D.3: an escaped partition, which is not supported
-  pub rfc-3 : read (hex 31 0xfff868020017e944_004f6f313d1047d2_27cb6d090831452b_dc2822228057a3) (replicate 24 (pos 7)) ≡ record { report = refusal 8; buffer = replicate 24 (pos 0) }
+  -- RFC 9639, appendix D.3: a linear predictor of order 3, and four partitions, of which the second is escaped with 5 bits
+  pub rfc-3 : read (hex 31 0xfff868020017e944_004f6f313d1047d2_27cb6d090831452b_dc2822228057a3) (replicate 25 (pos 7))
+      ≡ record { report = record { number = 0; consumed = 31; first = 0; channels = 1; bits = 8; size = 24 }; buffer = pos 0 ∷ pos 79 ∷ pos 111 ∷ pos 78 ∷ pos 8 ∷ minus 61 ∷ minus 90 ∷ minus 68 ∷ minus 13 ∷ pos 42 ∷ pos 67 ∷ pos 53 ∷ pos 13 ∷ minus 27 ∷ minus 46 ∷ minus 38 ∷ minus 12 ∷ pos 14 ∷ pos 24 ∷ pos 19 ∷ pos 6 ∷ minus 4 ∷ minus 5 ∷ pos 0 ∷ pos 7 ∷ [] }
+  -- three escaped partitions: of 31 bits without residuals, of none, whose residuals are zeros, and of one
+  pub escaped-widths : read (hex 18 0xfff8600200072914_03050bffe0f0c506_55a6) (replicate 8 (pos 7))
+      ≡ record { report = record { number = 0; consumed = 18; first = 0; channels = 1; bits = 8; size = 8 }; buffer = pos 3 ∷ pos 5 ∷ pos 7 ∷ pos 9 ∷ pos 10 ∷ pos 11 ∷ pos 12 ∷ pos 20 ∷ [] }
   -- side/right, written by the encoder `flac` 1.4.2; one more byte follows
   pub flac-stereo : read (hex 53 0xfff86598000f7114_ffb9ffe90064ecec_24023ade64d92978_9a923d8c00500274_0437055c80d00c03_23a5d1091f5847a4_75452c0aff) (replicate 32 (pos 7))
       ≡ record { report = record { number = 0; consumed = 52; first = 0; channels = 2; bits = 16; size = 16 }; buffer = pos 19 ∷ pos 1164 ∷ pos 2154 ∷ pos 2809 ∷ pos 2979 ∷ pos 2736 ∷ pos 2021 ∷ pos 987 ∷ minus 185 ∷ minus 1340 ∷ minus 2267 ∷ minus 2844 ∷ minus 2993 ∷ minus 2646 ∷ minus 1879 ∷ minus 852 ∷ pos 160 ∷ pos 1256 ∷ pos 2158 ∷ pos 2745 ∷ pos 2896 ∷ pos 2570 ∷ pos 1840 ∷ pos 837 ∷ minus 323 ∷ minus 1427 ∷ minus 2298 ∷ minus 2781 ∷ minus 2853 ∷ minus 2482 ∷ minus 1727 ∷ minus 682 ∷ [] }
@@ -42,6 +46,7 @@ published = record {
   rfc-2a = refl;
   rfc-2b = refl;
   rfc-3 = refl;
+  escaped-widths = refl;
   flac-stereo = refl;
   mid-side = refl;
   lpc = refl;

@@ -4,7 +4,8 @@ use mathlib.Core.List.{List, _∷_}
 use lib.Dec.{leb, ltb, eqb}
 use lib.IntN.{ℤ, pos, negsuc}
 use lib.ListN.{replicate}
-use Rattle.reading.specs.Readers.{Ask, done, stop, _>>=_, _>>_, bits, zeros, require, many, each, if_then_else_}
+use Rattle.reading.specs.Readers.{Ask, done, _>>=_, _>>_, bits, zeros, require, many, each, if_then_else_}
+use Rattle.rfc9639.specs.Integers.{signedBits}
 
 -- Section 9.2.7.2: a residual from its folded (zigzag) form. 2 n unfolds to n, and 2 n + 1 to -1 - n.
 unfoldable pub unfolded : ℕ → ℤ
@@ -21,10 +22,16 @@ rice k = do
   r ← bits k
   done (unfolded (folded k q r))
 
--- n residuals with the Rice parameter k. The last parameter of each method escapes to unencoded residuals (section
--- 9.2.7.1), which are not supported.
+-- Section 9.2.7.1: n residuals in two's complement, all of the width that comes first. With a width of 0 they are zeros
+-- and take no bits.
+unfoldable pub escaped : ℕ → Ask (List ℤ)
+escaped n = do
+  w ← bits 5
+  many n (signedBits w)
+
+-- n residuals with the Rice parameter k; the last parameter of each method is the escape code
 unfoldable pub codedResiduals : ℕ → ℕ → ℕ → Ask (List ℤ)
-codedResiduals method k n = if eqb k (2 ^ (4 + method) - 1) then stop 8 else many n (rice k)
+codedResiduals method k n = if eqb k (2 ^ (4 + method) - 1) then escaped n else many n (rice k)
 
 -- Section 9.2.7: a Rice parameter, of 4 bits in method 0 and of 5 in method 1, then the residuals.
 unfoldable pub partition : ℕ → ℕ → Ask (List ℤ)

@@ -12,9 +12,9 @@ use lib.ListN.{length, take, replicate}
 use lib.Pow.{pow-mono, pow-add}
 use lib.Seq.{take-all}
 use Rattle.reading.specs.declared.Place.{Place}
-use Rattle.reading.specs.Readers.{Ask, bits, many, each}
-use Rattle.reading.specs.Places.{At, gotAt, refusedAt, shortAt, runAt}
-use Rattle.reading.proofs.ByteRuns.{In, stays-in, runAt-stop, bind-got, bind-short, bits-below, prepended, prepended-nil, each-step, each-end}
+use Rattle.reading.specs.Readers.{Ask, _>>=_, bits, many, each}
+use Rattle.reading.specs.Places.{At, gotAt, shortAt, runAt}
+use Rattle.reading.proofs.ByteRuns.{In, stays-in, bind-got, bind-short, bits-below, prepended, prepended-nil, each-step, each-end}
 use Rattle.input.specs.declared.Bits.{Bits}
 use Rattle.input.specs.declared.Bits.the-variants.{Value, Short}
 use Rattle.input.specs.Answers as Input
@@ -22,7 +22,8 @@ use Rattle.input.specs.Answers.{low64}
 use Rattle.input.proofs.Callers.{read-got, read-short}
 use Rattle.error.specs.declared.Refusal.{Refusal}
 use Rattle.error.specs.Numbers.{refusedBy}
-use Rattle.rfc9639.specs.Residual.{rice, codedResiduals, partition}
+use Rattle.rfc9639.specs.Integers.{signedBits}
+use Rattle.rfc9639.specs.Residual.{rice, escaped, codedResiduals, partition}
 use Rattle.subframe.specs.declared.Decoded.{Decoded}
 use Rattle.subframe.specs.declared.Decoded.the-variants.{Done, Refused}
 use Rattle.subframe.specs.Answers.{samplesAt}
@@ -38,32 +39,53 @@ parameter-count method h =
     let e : 16 * 2 ^ method ≡ 2 ^ (4 + method) = sym (pow-add 2 4 method) in
     ap (λ x. x % 2 ^ 64) e ∙ mod-eq-of-lt (lt-of-le-of-lt few (lit< tt))
 
+-- a field of at most 5 bits, and the residuals that its number asks for
+module _ (width : ℕ) (s : List ℕ) (at : Place) (h : width ≤ 5) {r : Bits} (says : Input.bitsAt r ≡ low64 (runAt (bits width) s at)) where
+  pub field-below : {v : ℕ} {p : Place} → r ≡ Value v p → v < 2 ^ 5
+  field-below e = lt-of-lt-of-le (bits-below width s at (read-got width s at (omega arith) says e)) (pow-mono h)
+
+  module _ (residuals : ℕ → Ask (List ℤ)) where
+    field-short : r ≡ Short → shortAt ≡ runAt (bits width >>= residuals) s at
+    field-short e = sym (bind-short (bits width) s at residuals (read-short width s at (omega arith) says e))
+
+    field-then : {v : ℕ} {p : Place} → r ≡ Value v p → {x : At (List ℤ)} → x ≡ runAt (residuals v) s p
+        → x ≡ runAt (bits width >>= residuals) s at
+    field-then e g = g ∙ sym (bind-got (bits width) s at residuals (read-got width s at (omega arith) says e))
+
+-- the parameter, and both of its meanings
 module _ (method n : ℕ) (s : List ℕ) (at : Place) (h : method < 2) {r : Bits} (says : Input.bitsAt r ≡ low64 (runAt (bits (4 + method)) s at)) where
   pub parameter-short : r ≡ Short → shortAt ≡ runAt (partition method n) s at
   unfolding partition
-  parameter-short e = sym (bind-short (bits (4 + method)) s at (λ k. codedResiduals method k n) (read-short (4 + method) s at (omega arith) says e))
+  parameter-short = field-short (4 + method) s at (omega arith) says (λ k. codedResiduals method k n)
 
-  module _ {k : ℕ} {p : Place} (e : r ≡ Value k p) where
-    got : runAt (bits (4 + method)) s at ≡ gotAt k p
-    got = read-got (4 + method) s at (omega arith) says e
+  module _ {k : ℕ} {p : Place} (e : r ≡ Value k p) {x : At (List ℤ)} where
+    parameter-then : x ≡ runAt (codedResiduals method k n) s p → x ≡ runAt (partition method n) s at
+    unfolding partition
+    parameter-then = field-then (4 + method) s at (omega arith) says (λ k. codedResiduals method k n) e
 
-    pub parameter-below : k < 2 ^ 5
-    parameter-below = lt-of-lt-of-le (bits-below (4 + method) s at got) (pow-mono {i = 4 + method} {j = 5} (omega arith))
+    pub partition-escaped : k ≡ (16 * 2 ^ method) % 2 ^ 64 - 1 → x ≡ runAt (escaped n) s p → x ≡ runAt (partition method n) s at
+    unfolding codedResiduals
+    partition-escaped f g =
+        let last : k ≡ 2 ^ (4 + method) - 1 = f ∙ ap (λ x. x - 1) (parameter-count method h) in
+        parameter-then (g ∙ sym (rw (eq-eqb k (2 ^ (4 + method) - 1) last) refl))
 
-    pub partition-as-is : k ≡ (16 * 2 ^ method) % 2 ^ 64 - 1 → refusedAt 8 ≡ runAt (partition method n) s at
-    unfolding partition codedResiduals
-    partition-as-is f =
-        sym
-        (bind-got (bits (4 + method)) s at (λ k. codedResiduals method k n) got
-        ∙ rw (eq-eqb k (2 ^ (4 + method) - 1) (f ∙ ap (λ x. x - 1) (parameter-count method h))) (runAt-stop 8 (stays-in (bits (4 + method)) s at got)))
-
-    pub partition-coded : (k ≡ (16 * 2 ^ method) % 2 ^ 64 - 1 → ⊥) → {x : At (List ℤ)} → x ≡ runAt (many n (rice k)) s p → x ≡ runAt (partition method n) s at
-    unfolding partition codedResiduals
+    pub partition-coded : (k ≡ (16 * 2 ^ method) % 2 ^ 64 - 1 → ⊥) → x ≡ runAt (many n (rice k)) s p
+        → x ≡ runAt (partition method n) s at
+    unfolding codedResiduals
     partition-coded f g =
-        g
-        ∙ sym
-        (bind-got (bits (4 + method)) s at (λ k. codedResiduals method k n) got
-        ∙ rw (ne-eqb k (2 ^ (4 + method) - 1) (λ d. f (d ∙ ap (λ x. x - 1) (sym (parameter-count method h))))))
+        let other : k ≡ 2 ^ (4 + method) - 1 → ⊥ = λ d. f (d ∙ ap (λ x. x - 1) (sym (parameter-count method h))) in
+        parameter-then (g ∙ sym (rw (ne-eqb k (2 ^ (4 + method) - 1) other) refl))
+
+-- the width of an escaped partition
+module _ (n : ℕ) (s : List ℕ) (at : Place) {r : Bits} (says : Input.bitsAt r ≡ low64 (runAt (bits 5) s at)) where
+  pub width-short : r ≡ Short → shortAt ≡ runAt (escaped n) s at
+  unfolding escaped
+  width-short = field-short 5 s at (omega arith) says (λ w. many n (signedBits w))
+
+  pub escaped-by-width : {w : ℕ} {p : Place} → r ≡ Value w p → {x : At (List ℤ)} → x ≡ runAt (many n (signedBits w)) s p
+      → x ≡ runAt (escaped n) s at
+  unfolding escaped
+  escaped-by-width e = field-then 5 s at (omega arith) says (λ w. many n (signedBits w)) e
 
 -- ---- the first of some parts, then the others
 

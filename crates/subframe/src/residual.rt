@@ -14,7 +14,7 @@ ghost use lib.ListN.{length, replicate};
 ghost use Rattle.reading.specs.Readers.{many, each};
 ghost use Rattle.reading.specs.Places.{runAt};
 ghost use Rattle.rfc9639.specs.Integers.{signedBits};
-ghost use Rattle.rfc9639.specs.Residual.{folded as foldedOf, unfolded, rice, partition, residual};
+ghost use Rattle.rfc9639.specs.Residual.{folded as foldedOf, unfolded, rice, escaped, partition, residual};
 ghost use Rattle.subframe.specs.Answers.{samplesAt};
 ghost use Rattle.subframe.specs.Private.{sampleReadAt, placeAfter, riceReadAt, StartsInWord};
 
@@ -170,7 +170,18 @@ fn decode_rice(s: &[u8], at: Place, k: u32, out: &mut [i32]) -> Decoded
     Decoded::Done(place_at(p))
 }
 
-// A partition (RFC 9639 section 9.2.7). The last parameter means residuals stored as they are, which is not supported.
+// An escaped partition (RFC 9639 section 9.2.7.1): a width, then as many residuals of it as `out` has.
+fn decode_escaped(s: &[u8], at: Place, out: &mut [i32]) -> Decoded
+    ensures { λ r. ⌜ samplesAt r (now (out .exit)) ≡ runAt (escaped (length (now (out .entry)))) (now (s .entry)) at ⌝ }
+{
+    let read = input::read_bits(s, at, 5);
+    let Bits::Value(width, p) = read else {
+        return Decoded::Refused(Refusal::CutShort);
+    };
+    decode_verbatim(s, p, width as u32, out)
+}
+
+// A partition (RFC 9639 section 9.2.7). The last parameter is the escape code.
 fn decode_partition(s: &[u8], at: Place, method: u32, out: &mut [i32]) -> Decoded
     requires { ⌜ method < 2 ⌝ }
     ensures { λ r. ⌜ samplesAt r (now (out .exit)) ≡ runAt (partition method (length (now (out .entry)))) (now (s .entry)) at ⌝ }
@@ -180,7 +191,7 @@ fn decode_partition(s: &[u8], at: Place, method: u32, out: &mut [i32]) -> Decode
         return Decoded::Refused(Refusal::CutShort);
     };
     if k == (16u64 << method) - 1 {
-        return Decoded::Refused(Refusal::NotDone);
+        return decode_escaped(s, p, out);
     }
     decode_rice(s, p, k as u32, out)
 }
