@@ -82,6 +82,7 @@ run sh cases/run.sh runner oracle
 wait "$oracle"
 count_compared $? oracle/run.sh "$work/oracle"
 compare oracle/written.sh
+compare oracle/escaped.sh
 compare bindings/rust/test.sh
 compare bindings/c/test.sh
 # A CI that has what most of these need must have the rest too.

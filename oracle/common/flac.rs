@@ -58,6 +58,19 @@ pub fn decode(folder: &Path, stream: &[u8], bits: u32) -> Option<Vec<i32>> {
     Some(unraw(&bytes[start..], bits))
 }
 
+/// A stream header: the mark and STREAMINFO (RFC 9639 section 8.2), with the smallest and the largest block, and the number
+/// of samples in each channel. It gives no MD5.
+pub fn stream_header(blocks: (u16, u16), channels: usize, bits: u32, samples: usize) -> Vec<u8> {
+    let mut header = b"fLaC\x80\0\0\x22".to_vec();
+    header.extend(blocks.0.to_be_bytes());
+    header.extend(blocks.1.to_be_bytes());
+    header.extend([0; 6]);
+    let rest = 48000 << 44 | (channels as u64 - 1) << 41 | u64::from(bits - 1) << 36 | samples as u64;
+    header.extend(rest.to_be_bytes());
+    header.extend([0; 16]);
+    header
+}
+
 /// A stream's frames: the bytes after the metadata.
 pub fn frames_of(stream: &[u8]) -> &[u8] {
     assert_eq!(&stream[..4], b"fLaC");

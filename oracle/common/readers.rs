@@ -1,6 +1,4 @@
 //! The two readers, each reading one frame, and their answers as document 01's numbers.
-use claxon::frame::FrameReader;
-use claxon::Error;
 use std::io::Cursor;
 use std::panic::{catch_unwind, AssertUnwindSafe};
 pub use thriftacorn::ROOM;
@@ -32,6 +30,8 @@ pub enum Answer {
     Frame(Report),
     /// A refusal, by its number.
     Refused(u8),
+    /// claxon met an escaped partition, which it does not read.
+    Escaped,
     Panicked,
     /// A message of claxon's without a number here.
     Unknown(&'static str),
@@ -92,51 +92,88 @@ impl Ours {
     }
 }
 
+/// What claxon said of one frame, the same for both builds of it.
+enum Said {
+    Nothing,
+    Block { samples: Vec<i32>, first_sample: u64, channels: u32, block_size: u32 },
+    Short,
+    Unsupported(&'static str),
+    Refused(&'static str),
+}
+
+/// Has a build of claxon read a frame from a cursor into a buffer.
+macro_rules! ask {
+    ($claxon:ident, $cursor:expr, $buffer:expr) => {
+        match $claxon::frame::FrameReader::new($cursor).read_next_or_eof($buffer) {
+            Ok(None) => Said::Nothing,
+            Ok(Some(block)) => {
+                let (first_sample, channels, block_size) = (block.time(), block.channels(), block.duration());
+                Said::Block { samples: block.into_buffer(), first_sample, channels, block_size }
+            }
+            Err($claxon::Error::IoError(_)) => Said::Short,
+            Err($claxon::Error::Unsupported(why)) => Said::Unsupported(why),
+            Err($claxon::Error::FormatError(why)) => Said::Refused(why),
+        }
+    };
+}
+
 /// claxon's reader over one input, frame after frame.
 pub struct Claxon<'a> {
     cursor: Cursor<&'a [u8]>,
+    /// Where the frame read last starts.
+    start: usize,
     pub samples: Vec<i32>,
 }
 
 impl<'a> Claxon<'a> {
     /// `samples` is a buffer to reuse.
     pub fn new(bytes: &'a [u8], samples: Vec<i32>) -> Claxon<'a> {
-        Claxon { cursor: Cursor::new(bytes), samples }
+        Claxon { cursor: Cursor::new(bytes), start: 0, samples }
     }
 
-    /// Reads the next frame. claxon does not report its bits, so they are taken from the header.
+    /// Reads the next frame.
     pub fn read(&mut self) -> Answer {
-        let start = self.cursor.position() as usize;
-        let rest = &self.cursor.get_ref()[start..];
+        self.start = self.cursor.position() as usize;
         let buffer = std::mem::take(&mut self.samples);
         let cursor = &mut self.cursor;
-        let read = catch_unwind(AssertUnwindSafe(|| FrameReader::new(cursor).read_next_or_eof(buffer)));
-        match read {
-            Err(_) => Answer::Panicked,
-            Ok(Ok(None)) => Answer::Refused(Refusal::NothingLeft.number()),
-            Ok(Err(error)) => number_of(&error, rest),
-            Ok(Ok(Some(block))) => {
-                let report = Report {
-                    consumed: self.cursor.position() as usize - start,
-                    first_sample: block.time(),
-                    channels: block.channels() as usize,
-                    bits: [0, 8, 12, 0, 16, 20, 24, 0][usize::from(rest[3] >> 1 & 7)],
-                    block_size: block.duration() as usize,
-                };
-                self.samples = block.into_buffer();
-                Answer::Frame(report)
+        let said = catch_unwind(AssertUnwindSafe(|| ask!(claxon, cursor, buffer)));
+        said.map_or(Answer::Panicked, |said| self.answer(said))
+    }
+
+    /// Reads the last frame again, with claxon extended by escaped partitions.
+    pub fn read_extended(&mut self) -> Answer {
+        self.cursor.set_position(self.start as u64);
+        let buffer = std::mem::take(&mut self.samples);
+        let cursor = &mut self.cursor;
+        let said = catch_unwind(AssertUnwindSafe(|| ask!(claxon_extended, cursor, buffer)));
+        said.map_or(Answer::Panicked, |said| self.answer(said))
+    }
+
+    /// claxon does not report its bits, so they are taken from the header.
+    fn answer(&mut self, said: Said) -> Answer {
+        let bytes = &self.cursor.get_ref()[self.start..];
+        match said {
+            Said::Nothing => Answer::Refused(Refusal::NothingLeft.number()),
+            Said::Short => Answer::Refused(2),
+            Said::Unsupported("unencoded binary is not yet implemented") => Answer::Escaped,
+            Said::Unsupported(_) => Answer::Refused(8),
+            Said::Refused(message) => number_of(message, bytes),
+            Said::Block { samples, first_sample, channels, block_size } => {
+                self.samples = samples;
+                Answer::Frame(Report {
+                    consumed: self.cursor.position() as usize - self.start,
+                    first_sample,
+                    channels: channels as usize,
+                    bits: [0, 8, 12, 0, 16, 20, 24, 0][usize::from(bytes[3] >> 1 & 7)],
+                    block_size: block_size as usize,
+                })
             }
         }
     }
 }
 
-/// The number that document 01 has for claxon's error on these bytes.
-fn number_of(error: &Error, bytes: &[u8]) -> Answer {
-    let message = match error {
-        Error::IoError(_) => return Answer::Refused(2),
-        Error::Unsupported(_) => return Answer::Refused(8),
-        Error::FormatError(message) => *message,
-    };
+/// The number that document 01 has for claxon's message on these bytes.
+fn number_of(message: &'static str, bytes: &[u8]) -> Answer {
     Answer::Refused(match message {
         "frame sync code missing" => 3,
         // claxon reports the reserved sync bit with the same message as reserved codes.

@@ -15,10 +15,12 @@ pub enum Field {
     PartitionOrder,
     FourBitParameter,
     FiveBitParameter,
+    FourBitWidth,
+    FiveBitWidth,
 }
 
 /// Each field with its name and its legal values. Wasted bits are legal up to the width: 24 in the widest channel.
-const FIELDS: [(&str, u64); 13] = [
+const FIELDS: [(&str, u64); 15] = [
     ("size codes", 0xFFFE),
     ("rate codes", 0x7FFF),
     ("channel codes", 0x7FF),
@@ -32,6 +34,8 @@ const FIELDS: [(&str, u64); 13] = [
     ("partition orders", 0xFFFF),
     ("four-bit parameters", 0x7FFF),
     ("five-bit parameters", 0x7FFF_FFFF),
+    ("escaped widths in the four-bit method", 0xFFFF_FFFF),
+    ("in the five-bit method", 0xFFFF_FFFF),
 ];
 
 #[derive(Default)]

@@ -13,11 +13,12 @@ pub struct Family {
     pub unit: fn(&mut Judge, usize, &mut Draw, &mut Pen),
 }
 
-pub const FAMILIES: [Family; 11] = [
+pub const FAMILIES: [Family; 12] = [
     Family { name: "built", units: 150, unit: built },
     Family { name: "built-tiny", units: 300, unit: built_tiny },
     Family { name: "extremes", units: 300, unit: extremes },
     Family { name: "edges", units: 12, unit: edges },
+    Family { name: "escaped", units: 20, unit: escaped },
     Family { name: "faults", units: 6, unit: faults },
     Family { name: "cuts", units: 2, unit: cuts },
     Family { name: "flips", units: 10, unit: flips },
@@ -27,7 +28,7 @@ pub const FAMILIES: [Family; 11] = [
     Family { name: "room", units: 20, unit: room },
 ];
 
-const MIXED: Taste = Taste { sizes: Sizes::Mixed, fault: None, extreme: false, edges: false };
+const MIXED: Taste = Taste { sizes: Sizes::Mixed, fault: None, extreme: false, edges: false, escaped: false };
 const TINY: Taste = Taste { sizes: Sizes::Tiny, ..MIXED };
 
 /// One frame, with a pen of its own.
@@ -68,6 +69,21 @@ fn edges(judge: &mut Judge, family: usize, draw: &mut Draw, pen: &mut Pen) {
     for _ in 0..17 {
         pen.bytes.push(draw.pick(&[0, 0xFF, 0x55, 1, 0x80]));
         judge.made_for(0, family, &pen.bytes);
+    }
+}
+
+/// Partitions whose residuals are stored as they are. Each frame is read whole, cut short, and with bits changed and the
+/// check sums corrected.
+fn escaped(judge: &mut Judge, family: usize, draw: &mut Draw, pen: &mut Pen) {
+    let sizes = if draw.once_in(8) { Sizes::Mixed } else { Sizes::Tiny };
+    let extreme = draw.once_in(4);
+    let written = single(draw, pen, Taste { sizes, extreme, escaped: true, ..MIXED });
+    judge.made_for(0, family, &pen.bytes);
+    for _ in 0..8 {
+        judge.one(family, &pen.bytes[..draw.below(pen.bytes.len() as u32) as usize]);
+        let mut bytes = pen.bytes.clone();
+        damage(draw, &mut bytes, written.header);
+        judge.one(family, &bytes);
     }
 }
 
@@ -153,7 +169,8 @@ fn noise(judge: &mut Judge, family: usize, draw: &mut Draw, pen: &mut Pen) {
 fn rows(judge: &mut Judge, family: usize, draw: &mut Draw, pen: &mut Pen) {
     pen.clear();
     for _ in 0..draw.from(2, 6) {
-        write_frame(pen, draw, TINY);
+        let escaped = draw.once_in(8);
+        write_frame(pen, draw, Taste { escaped, ..TINY });
     }
     let end = pen.bytes.len();
     match draw.below(5) {

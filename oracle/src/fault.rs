@@ -26,14 +26,13 @@ pub enum Fault {
     Method,
     PartitionOrder,
     WarmUp,
-    Parameter,
     FrameSum,
 }
 
 use Fault::*;
 
 /// The faults in the order of the bits, each with its refusal.
-pub const FAULTS: [(Fault, u8); 26] = [
+pub const FAULTS: [(Fault, u8); 25] = [
     (Sync, 3),
     (SizeZero, 4),
     (RateFifteen, 4),
@@ -58,6 +57,5 @@ pub const FAULTS: [(Fault, u8); 26] = [
     (Method, 4),
     (PartitionOrder, 9),
     (WarmUp, 9),
-    (Parameter, 8),
     (FrameSum, 10),
 ];

@@ -14,6 +14,7 @@ pub struct Taste {
     pub fault: Option<Fault>,
     pub extreme: bool,
     pub edges: bool,
+    pub escaped: bool,
 }
 
 /// What was written for a frame.
@@ -47,7 +48,8 @@ pub fn write_frame(pen: &mut Pen, draw: &mut Draw, taste: Taste) -> Written {
     for channel in 0..header.channels() {
         let fault = taste.fault.filter(|fault| is_in_subframe(*fault) && channel == faulty);
         let width = header.width(channel);
-        Subframe { pen, draw, size, width, fault, extreme: taste.extreme, edges: taste.edges }.write();
+        Subframe { pen, draw, size, width, fault, extreme: taste.extreme, edges: taste.edges, escaped: taste.escaped }
+            .write();
     }
     let padding = draw.next();
     pen.align(if draw.once_in(2) { padding } else { 0 });

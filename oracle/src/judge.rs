@@ -4,7 +4,8 @@ use common::readers::{Answer, Claxon, Ours, ROOM};
 
 /// The entries of docs/DIFFERENCES.md for which the two answers differ, as far as a family reaches them. At most other
 /// entries the two agree and differ only from the RFC.
-pub const LISTED: [&str; 4] = ["one byte of input", "bits code 7, 32 bits", "number starting with FF", "room"];
+pub const LISTED: [&str; 5] =
+    ["one byte of input", "bits code 7, 32 bits", "number starting with FF", "room", "escaped partition"];
 
 /// How often each answer was seen in one family, by number. An input that got 7 is read again with enough room, and
 /// counted by that answer too.
@@ -93,13 +94,18 @@ impl Judge {
         self.spare = claxon.samples;
     }
 
-    /// Both readers on the same bytes. Returns the bytes consumed, or this reader's refusal.
+    /// Both readers on the same bytes. Returns the bytes consumed, or this reader's refusal. Where claxon stops at an
+    /// escaped partition, claxon extended must answer as this reader does.
     fn step(&mut self, family: usize, bytes: &[u8], claxon: &mut Claxon, room: usize) -> Result<usize, u8> {
         let ours = self.ours.read(bytes, room);
-        let theirs = claxon.read();
+        let read = claxon.read();
+        let theirs = if read == Answer::Escaped { claxon.read_extended() } else { read };
         let samples_equal = !matches!(ours, Answer::Frame(_)) || self.ours.samples() == &claxon.samples[..];
         if ours == theirs && samples_equal && self.ours.is_in_order(ours) {
-            self.sample.offer(family, self.tallies[family].name, bytes, ours);
+            match read {
+                Answer::Escaped => self.listed[4] += 1,
+                _ => self.sample.offer(family, self.tallies[family].name, bytes, ours),
+            }
         } else if let Some(entry) = entry(bytes, ours, theirs).filter(|_| self.ours.is_in_order(ours)) {
             self.listed[entry] += 1;
         } else {

@@ -89,7 +89,7 @@ pub fn render(bytes: &[u8]) -> Option<Vec<u8>> {
                 out.extend([3, number]);
                 return Some(out);
             }
-            Answer::Panicked | Answer::Unknown(_) => return None,
+            Answer::Escaped | Answer::Panicked | Answer::Unknown(_) => return None,
         }
     }
 }

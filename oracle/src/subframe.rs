@@ -15,6 +15,8 @@ pub struct Subframe<'a> {
     pub extreme: bool,
     /// Codes near the end of a word of eight bytes, and linear predictors that have a fixed one's coefficients.
     pub edges: bool,
+    /// About every second partition is escaped.
+    pub escaped: bool,
 }
 
 /// The coefficients of the fixed predictors, by order (RFC 9639 section 9.2.5).
@@ -24,7 +26,7 @@ impl Subframe<'_> {
     pub fn write(&mut self) {
         let order = self.draw_order();
         match (self.fault, self.draw.below(8)) {
-            (Some(OrderOverSize | Precision | Shift | Method | PartitionOrder | WarmUp | Parameter), _) => {
+            (Some(OrderOverSize | Precision | Shift | Method | PartitionOrder | WarmUp), _) => {
                 self.write_predicted(order);
             }
             (_, 0) => self.write_plain(0, 1),
@@ -161,11 +163,10 @@ impl Subframe<'_> {
         let order = self.draw_partition_order(warm);
         self.pen.field(Field::PartitionOrder, order, 4);
         let (partitions, length) = (1 << order, self.size >> order);
-        let faulty = if self.fault == Some(Parameter) { self.draw.below(partitions) } else { partitions };
         for partition in 0..partitions {
             let count = if partition == 0 { length.saturating_sub(warm) } else { length };
-            if partition == faulty {
-                self.write_unfolded(method, count);
+            if self.escaped && self.draw.once_in(2) {
+                self.write_escaped(method, count);
             } else {
                 self.write_partition(method, count);
             }
@@ -207,13 +208,15 @@ impl Subframe<'_> {
         most.saturating_sub(here + parameter + 1)
     }
 
-    /// An escaped partition (RFC 9639 section 9.2.7.1), which neither reader supports.
-    fn write_unfolded(&mut self, method: u32, count: u32) {
+    /// A partition whose residuals are stored as they are (RFC 9639 section 9.2.7.1).
+    fn write_escaped(&mut self, method: u32, count: u32) {
+        let field = if method == 0 { Field::FourBitWidth } else { Field::FiveBitWidth };
         self.pen.put(31, 4 + method);
         let width = self.draw.below(32);
-        self.pen.put(u64::from(width), 5);
-        for _ in 0..count {
-            self.pen.put(self.draw.next(), width);
+        self.pen.field(field, width, 5);
+        for _ in 0..if width == 0 { 0 } else { count } {
+            let residual = self.draw_number(width);
+            self.pen.put(residual, width);
         }
     }
 }

@@ -41,20 +41,13 @@ fn write_one(samples: &[i32], settings: &WriteSettings) -> Vec<u8> {
     frame
 }
 
-/// A stream header for frames of these settings: the mark and STREAMINFO (RFC 9639 section 8.2).
+/// A stream header for frames of these settings.
 fn stream_header(settings: &WriteSettings, total: usize) -> Vec<u8> {
-    let (least, most) = match settings.blocking {
-        Blocking::Fixed => (settings.block_size, settings.block_size),
+    let blocks = match settings.blocking {
+        Blocking::Fixed => (settings.block_size as u16, settings.block_size as u16),
         Blocking::Variable => (16, 65535),
     };
-    let mut header = b"fLaC\x80\0\0\x22".to_vec();
-    header.extend((least as u16).to_be_bytes());
-    header.extend((most as u16).to_be_bytes());
-    header.extend([0; 6]);
-    let rest = 48000 << 44 | (settings.channels() as u64 - 1) << 41 | u64::from(settings.bits - 1) << 36 | total as u64;
-    header.extend(rest.to_be_bytes());
-    header.extend([0; 16]);
-    header
+    flac::stream_header(blocks, settings.channels(), settings.bits, total)
 }
 
 /// A stream of some frames, and its samples. RFC 9639 allows only the last block of a stream to be shorter than 16
