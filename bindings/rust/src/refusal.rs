@@ -21,8 +21,8 @@ pub enum Refusal {
     HeaderSum = 6,
     /// 7: the frame has more samples than there is room for.
     NoRoom = 7,
-    /// 8: a part of the format that is not supported: a bit depth given only in the stream's header, 32 bits, escaped
-    /// partitions, a negative prediction shift.
+    /// 8: a part of the format that is not supported: a bit depth given only in the stream's header, 32 bits, a negative
+    /// prediction shift.
     NotDone = 8,
     /// 9: sizes that contradict each other.
     BadShape = 9,

@@ -42,7 +42,8 @@ fn each_refusal_has_its_buffer() {
         ("fff860000000ea", Refusal::NotDone, untouched),
         ("fff860080000bb80", Refusal::Reserved, [0, 7, 7, 7]),
         ("fff860080000bb14", Refusal::BadShape, [0, 7, 7, 7]),
-        ("fff8600200013b14010203c0", Refusal::NotDone, [0, 0, 7, 7]),
+        ("fff8600200013b40013f88", Refusal::NotDone, [0, 0, 7, 7]),
+        ("fff8600200013b14010203c0", Refusal::CutShort, [0, 0, 7, 7]),
         ("fff860080000bb000005483d", Refusal::FrameSum, [0, 7, 7, 7]),
     ] {
         assert_eq!(read(&bytes(hex)), (Err(refusal), left), "{hex}");
