@@ -55,7 +55,7 @@ in_a_row() { # OPTIONS: a row of the table of hours
 with_libflac=''
 if echo '#include <FLAC/stream_decoder.h>' | cc -E - >/dev/null 2>&1; then
     cc -std=c99 -O2 -Wall -Wextra -c "$root/bench/src/libflac.c" -o "$out/libflac.o" || exit 1
-    with_libflac="--cfg libflac -C link-arg=$out/libflac.o -l FLAC"
+    with_libflac="--cfg libflac -C link-arg=$out/libflac.o -C link-arg=-lFLAC"
 fi
 # shellcheck disable=SC2086
 build reading "$root/bench/src/reading.rs" --check-cfg 'cfg(libflac)' $with_libflac || exit 1

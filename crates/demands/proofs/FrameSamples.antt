@@ -59,7 +59,9 @@ escaped-holds n = holds-bind _ (holds-bits 5) (λ w _. holds-many n (signedBits-
 
 partition-holds : (method n : ℕ) → Holds Late (Sized n Some) (partition method n)
 unfolding partition codedResiduals
-partition-holds method n = holds-bind _ (holds-bits (4 + method)) (λ k _. holds-if (eqb k (2 ^ (4 + method) - 1)) (λ _. escaped-holds n) (λ _. holds-many n (rice-holds k)))
+partition-holds method n =
+    holds-bind _ (holds-bits (4 + method))
+    (λ k _. holds-if (eqb k (2 ^ (4 + method) - 1)) (λ _. escaped-holds n) (λ _. holds-many n (rice-holds k)))
 
 every-of : {A : Type 0} {P : A → Type 0} → ((a : A) → P a) → (xs : List A) → Every P xs
 every-of h [] = tt

@@ -22,6 +22,7 @@ module _ {s : List ℕ} {at : Place} (h : In s at) where
   zero-width (suc n) = bind-got (signedBits 0) s at _ zero-bits ∙ bind-got (many n (signedBits 0)) s at _ (zero-width n) ∙ runAt-done _ h
 
 -- n zeros, and the place is right after the width
-pub escaped-zeros : (n : ℕ) (s : List ℕ) (at : Place) {p : Place} → runAt (bits 5) s at ≡ gotAt 0 p → runAt (escaped n) s at ≡ gotAt (replicate n (pos 0)) p
+pub escaped-zeros : (n : ℕ) (s : List ℕ) (at : Place) {p : Place} → runAt (bits 5) s at ≡ gotAt 0 p
+    → runAt (escaped n) s at ≡ gotAt (replicate n (pos 0)) p
 unfolding escaped
 escaped-zeros n s at e = bind-got (bits 5) s at (λ w. many n (signedBits w)) e ∙ zero-width (stays-in (bits 5) s at e) n

@@ -35,8 +35,9 @@ same-length c = search needs
 
 returns-2 : tie.Need-returns-2
 returns-2 c =
-    let b = c .before .before .before .before .before in
-    partition-escaped _ _ _ _ (omega arith) (b .before .before .read-bits .ensures) (b .read .given .1) (c .before .before .before .if1 .taken) (c .before .decode-escaped .ensures)
+    let i = c .before .before .before in
+    let b = i .before .before in
+    partition-escaped _ _ _ _ (omega arith) (b .before .before .read-bits .ensures) (b .read .given .1) (i .if1 .taken) (c .before .decode-escaped .ensures)
 
 cast-decode-rice : tie.Need-cast-decode-rice
 cast-decode-rice c =
