@@ -4,7 +4,7 @@ case's name, its input and its output in hex.
     python3 cases/make.py
 
 The outputs come from writer.py, and from model.py, which was compared with claxon 0.4.3 on random frames and damaged
-copies of them. COUNTS says how many cases a list has, and is changed by hand.
+copies of them, and on escaped partitions, which claxon refuses, with `flac` (oracle/escaped.sh). COUNTS says how many cases a list has, and is changed by hand.
 """
 import hashlib
 import os

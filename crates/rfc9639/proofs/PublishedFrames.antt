@@ -1,4 +1,5 @@
--- Published frames: from the RFC, from the encoder `flac`, and with the data of claxon's tests. Assumes nothing.
+-- Published frames: from the RFC, from the encoder `flac`, and with the data of claxon's tests; and some made for a corner
+-- of the format. Assumes nothing.
 use mathlib.Core.Path.{_≡_, refl}
 use mathlib.Core.List.{[], _∷_}
 use lib.IntN.{pos}
