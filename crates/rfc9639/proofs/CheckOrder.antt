@@ -3,17 +3,31 @@ use Prim.Native.Nat.{ℕ, _-_}
 use mathlib.Core.Path.{_≡_, refl}
 use mathlib.Core.List.{List, [], _++_}
 use lib.IntN.{pos}
-use lib.ListN.{replicate}
+use lib.ListN.{length, replicate}
+use Rattle.rfc9639.specs.declared.FirstSample.{FirstSample}
+use Rattle.rfc9639.specs.declared.Settings.{Settings}
 use Rattle.rfc9639.specs.Read.{refusal, read}
-use Rattle.rfc9639.proofs.Evaluation.{hex, computed}
+use Rattle.rfc9639.proofs.Evaluation.{hex, blocksOf, unknown, computed}
 
 -- refused with number n, and the buffer of sevens is untouched
+abbrev refusesGiven : Settings → List ℕ → ℕ → ℕ → Type 0
+refusesGiven set s room n = read set s (replicate room (pos 7)) ≡ record { report = refusal n; buffer = replicate room (pos 7) }
+
 abbrev refuses : List ℕ → ℕ → ℕ → Type 0
-refuses s room n = read s (replicate room (pos 7)) ≡ record { report = refusal n; buffer = replicate room (pos 7) }
+refuses = refusesGiven unknown
+
+-- a frame of four equal samples that is accepted with this first sample
+abbrev accepts : Settings → List ℕ → FirstSample → Type 0
+accepts set s first =
+    read set s (replicate 5 (pos 7))
+    ≡ record {
+      report = record { number = 0; consumed = length s; first = first; channels = 1; bits = 8; size = 4 };
+      buffer = replicate 4 (pos 5) ++ replicate 1 (pos 7);
+    }
 
 -- refused with number n, and the first samples are zero
 abbrev clears : List ℕ → ℕ → ℕ → ℕ → Type 0
-clears s room places n = read s (replicate room (pos 7)) ≡ record { report = refusal n; buffer = replicate places (pos 0) ++ replicate (room - places) (pos 7) }
+clears s room places n = read unknown s (replicate room (pos 7)) ≡ record { report = refusal n; buffer = replicate places (pos 0) ++ replicate (room - places) (pos 7) }
 
 pub record Ordered : Type 0 where
   pub empty : refuses [] 2 1
@@ -42,6 +56,24 @@ pub record Ordered : Type 0 where
   pub no-room : refuses (hex 12 0xfff860080000bb00_0005483c) 0 7
   pub room-before-subframe : refuses (hex 7 0xfff860080000bb) 0 7
   pub header-alone : refuses (hex 7 0xfff860080000bb) 2 2
+  -- a block size that no stream has, before anything
+  pub block-0-of-nothing : refusesGiven (blocksOf 0) [] 2 11
+  pub block-65536-of-nothing : refusesGiven (blocksOf 65536) [] 2 11
+  pub block-0-of-frame : refusesGiven (blocksOf 0) (hex 11 0xfff8600200033500_050984) 5 11
+  pub block-65535-of-nothing : refusesGiven (blocksOf 65535) [] 2 1
+  -- a block larger than the stream's: after the CRC-8 and bit depth code 0, before the room and the first subframe
+  pub sum-before-larger : refusesGiven (blocksOf 3) (hex 7 0xfff86002000334) 5 6
+  pub stream-bits-before-larger : refusesGiven (blocksOf 3) (hex 7 0xfff860000003e3) 5 8
+  pub larger-before-room : refusesGiven (blocksOf 3) (hex 7 0xfff86002000335) 3 9
+  pub larger-before-subframe : refusesGiven (blocksOf 3) (hex 8 0xfff8600200033580) 5 9
+  -- not so under variable blocking, where the first sample is the number whatever the size
+  pub larger-variable : accepts (blocksOf 3) (hex 11 0xfff960020903ea00_0594b5) (FirstSample.Known 9)
+  pub unknown-variable : accepts unknown (hex 11 0xfff960020903ea00_0594b5) (FirstSample.Known 9)
+  -- under fixed blocking the first sample is known if the size is, also where the number is 0
+  pub short-block : accepts (blocksOf 16) (hex 11 0xfff8600203030a00_050a00) (FirstSample.Known 48)
+  pub own-block : accepts (blocksOf 4) (hex 11 0xfff8600203030a00_050a00) (FirstSample.Known 12)
+  pub unknown-block : accepts unknown (hex 11 0xfff8600203030a00_050a00) FirstSample.Unknown
+  pub unknown-block-0 : accepts unknown (hex 11 0xfff8600200033500_050984) FirstSample.Unknown
   -- from the first bit of the first subframe on, the first N are zero
   pub first-bit : clears (hex 8 0xfff860080000bb80) 2 1 4
   pub reserved-type : clears (hex 8 0xfff860080000bb04) 2 1 4
@@ -88,6 +120,20 @@ ordered = record {
   no-room = refl;
   room-before-subframe = refl;
   header-alone = refl;
+  block-0-of-nothing = refl;
+  block-65536-of-nothing = refl;
+  block-0-of-frame = refl;
+  block-65535-of-nothing = refl;
+  sum-before-larger = refl;
+  stream-bits-before-larger = refl;
+  larger-before-room = refl;
+  larger-before-subframe = refl;
+  larger-variable = refl;
+  unknown-variable = refl;
+  short-block = refl;
+  own-block = refl;
+  unknown-block = refl;
+  unknown-block-0 = refl;
   first-bit = refl;
   reserved-type = refl;
   type-then-cut = refl;

@@ -8,20 +8,26 @@ use Rattle.reading.specs.Readers.{Ask, done, _>>=_, _>>_, bits, passed, require
 use Rattle.rfc9639.specs.declared.ChannelAssignment.{ChannelAssignment}
 use Rattle.rfc9639.specs.declared.ChannelAssignment.the-variants.{Independent, LeftSide, SideRight, MidSide}
 use Rattle.rfc9639.specs.declared.FrameHeader.{FrameHeader}
+use Rattle.rfc9639.specs.declared.Settings.{Settings}
 use Rattle.rfc9639.specs.CheckSums.{crc16}
 use Rattle.rfc9639.specs.Header.{header, sampleCount}
 use Rattle.rfc9639.specs.Subframe.{subframe}
 use Rattle.rfc9639.specs.Stereo.{leftAndRight}
+use Rattle.rfc9639.specs.Stream.{possible, blockFits}
 
--- what the caller gives besides the bytes: room for this many samples
+-- what the caller gives besides the bytes: its settings, and room for this many samples
 pub record ReaderSettings : Type 0 where
+  pub given : Settings
   pub room : ℕ
 
--- a header whose frame can be read: it states the bit depth, and there is room for the frame's samples
+-- A header whose frame can be read: it states the bit depth, its block belongs to the stream, and there is room for the
+-- frame's samples. Settings that no stream has are refused before anything is read.
 unfoldable pub opening : ReaderSettings → Ask FrameHeader
 opening set = do
+  require (possible (set .given)) 11
   h ← header
   require (ltb 0 (h .bits)) 8
+  require (blockFits (set .given .block) (h .time) (h .size)) 9
   require (leb (sampleCount h) (set .room)) 7
   done h
 

@@ -1,9 +1,14 @@
--- A whole input, frame by frame: the list of answers, up to and including the refusal that ends it. The definitions
--- hold for any function `one` that reads one frame, so no setting of the reader appears here.
+-- A whole input, frame by frame: the list of answers, up to and including the refusal that ends it. `answers` holds for
+-- any function `one` that reads one frame, so it knows no setting of the reader.
 use Prim.Native.Nat.{ℕ, zero, suc}
 use mathlib.Core.List.{List, [], _∷_}
 use lib.ListN.{length, drop}
-use Rattle.rfc9639.specs.Read.{Result}
+use Rattle.reading.specs.Places.{At, gotAt, refusedAt, shortAt, runAt, placeOf}
+use Rattle.rfc9639.specs.declared.FrameHeader.{FrameHeader}
+use Rattle.rfc9639.specs.declared.Settings.{Settings}
+use Rattle.rfc9639.specs.declared.StreamBlock.{StreamBlock}
+use Rattle.rfc9639.specs.Header.{header}
+use Rattle.rfc9639.specs.Read.{Result, result}
 
 -- What an answer is, by its number: 0 is a frame; 1 and 2 may change with more bytes; more bytes never change the
 -- others.
@@ -33,3 +38,18 @@ answersUpTo (suc n) one s = one s ∷ goesOn (verdict (one s)) (answersUpTo n on
 -- An accepted frame has at least one byte. So there are at most as many frames as bytes, and then one refusal.
 unfoldable pub answers : (List ℕ → Result) → List ℕ → List Result
 answers one s = answersUpTo (suc (length s)) one s
+
+-- ---- a stream that is read from its first frame on
+
+-- the block size in a header, if there is one
+unfoldable pub blockIn : At FrameHeader → StreamBlock
+blockIn (gotAt h at) = StreamBlock.Known (h .size)
+blockIn (refusedAt n) = StreamBlock.Unknown
+blockIn shortAt = StreamBlock.Unknown
+
+-- What a stream says about itself: the size of its blocks is that of the first, whatever the blocking.
+unfoldable pub streamSettings : List ℕ → Settings
+streamSettings s = record { block = blockIn (runAt header s (placeOf 0)) }
+
+unfoldable pub streamAnswers : ℕ → List ℕ → List Result
+streamAnswers room s = answers (result (record { given = streamSettings s; room = room })) s

@@ -91,11 +91,3 @@ header = do
 -- the samples of all channels together
 unfoldable pub sampleCount : FrameHeader → ℕ
 sampleCount h = channelCount (h .channels) * h .size
-
--- the number of the frame's first sample
-unfoldable pub firstSample : FrameHeader → ℕ
-firstSample h = go (h .time)
-  where
-    go : BlockTime → ℕ
-    go (FrameNumber n) = h .size * n
-    go (SampleNumber n) = n

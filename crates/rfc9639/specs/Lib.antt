@@ -9,6 +9,7 @@ pub mod Residual
 pub mod Prediction
 pub mod Subframe
 pub mod Stereo
+pub mod Stream
 pub mod Frame
 pub mod Read
 pub mod FrameByFrame

@@ -7,28 +7,32 @@ use lib.ListN.{length, replicate, drop}
 use Rattle.reading.specs.declared.Place.{Place}
 use Rattle.reading.specs.Readers.{Ask, done, _>>=_, _>>_, bits}
 use Rattle.reading.specs.Places.{At, gotAt, refusedAt, shortAt, runAt, placeOf}
+use Rattle.rfc9639.specs.declared.FirstSample.{FirstSample}
 use Rattle.rfc9639.specs.declared.FrameHeader.{FrameHeader}
+use Rattle.rfc9639.specs.declared.Settings.{Settings}
 use Rattle.rfc9639.specs.HeaderCodes.{channelCount}
-use Rattle.rfc9639.specs.Header.{sampleCount, firstSample}
+use Rattle.rfc9639.specs.Header.{sampleCount}
+use Rattle.rfc9639.specs.Stream.{firstSample}
 use Rattle.rfc9639.specs.Frame.{ReaderSettings, Frame, opening, frame}
 
--- `number` is 0 for a frame. Else it is the refusal's, and all other fields are 0. `consumed` counts the frame's bytes.
+-- `number` is 0 for a frame. Else it is the refusal's, all other numbers are 0, and no first sample is known. `consumed`
+-- counts the frame's bytes.
 pub record Report : Type 0 where
   pub number : ℕ
   pub consumed : ℕ
-  pub first : ℕ
+  pub first : FirstSample
   pub channels : ℕ
   pub bits : ℕ
   pub size : ℕ
 
 unfoldable pub refusal : ℕ → Report
-refusal n = record { number = n; consumed = 0; first = 0; channels = 0; bits = 0; size = 0 }
+refusal n = record { number = n; consumed = 0; first = FirstSample.Unknown; channels = 0; bits = 0; size = 0 }
 
-unfoldable pub accepted : FrameHeader → Place → Report
-accepted h end = record {
+unfoldable pub accepted : Settings → FrameHeader → Place → Report
+accepted given h end = record {
   number = 0;
   consumed = end .byte;
-  first = firstSample h;
+  first = firstSample (given .block) (h .time);
   channels = channelCount (h .channels);
   bits = h .bits;
   size = h .size;
@@ -58,25 +62,25 @@ begun set = do
   done h
 
 -- the result where the subframes have begun
-unfoldable pub finished : FrameHeader → At Frame → Result
-finished h (gotAt f end) = record { report = accepted (f .header) end; front = f .samples }
-finished h (refusedAt n) = zeroed n h
-finished h shortAt = zeroed 2 h
+unfoldable pub finished : Settings → FrameHeader → At Frame → Result
+finished given h (gotAt f end) = record { report = accepted given (f .header) end; front = f .samples }
+finished given h (refusedAt n) = zeroed n h
+finished given h shortAt = zeroed 2 h
 
-unfoldable pub resultOf : List ℕ → At FrameHeader → At Frame → Result
-resultOf bytes (gotAt h at) whole = finished h whole
-resultOf bytes (refusedAt n) whole = untouched n
-resultOf bytes shortAt whole = untouched (cutShort bytes)
+unfoldable pub resultOf : Settings → List ℕ → At FrameHeader → At Frame → Result
+resultOf given bytes (gotAt h at) whole = finished given h whole
+resultOf given bytes (refusedAt n) whole = untouched n
+resultOf given bytes shortAt whole = untouched (cutShort bytes)
 
 unfoldable pub result : ReaderSettings → List ℕ → Result
-result set bytes = resultOf bytes (runAt (begun set) bytes (placeOf 0)) (runAt (frame set) bytes (placeOf 0))
+result set bytes = resultOf (set .given) bytes (runAt (begun set) bytes (placeOf 0)) (runAt (frame set) bytes (placeOf 0))
 
 pub record Outcome : Type 0 where
   pub report : Report
   pub buffer : List ℤ
 
 -- THE READER: what reading some bytes into a buffer reports, and the buffer afterwards.
-unfoldable pub read : List ℕ → List ℤ → Outcome
-read bytes buffer =
-    let r = result (record { room = length buffer }) bytes in
+unfoldable pub read : Settings → List ℕ → List ℤ → Outcome
+read given bytes buffer =
+    let r = result (record { given = given; room = length buffer }) bytes in
     record { report = r .report; buffer = r .front ++ drop (length (r .front)) buffer }
