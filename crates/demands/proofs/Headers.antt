@@ -71,7 +71,7 @@ number-holds =
 -- ---- the header
 
 -- the number in a header: the frame's own, or that of its first sample
-pub numberIn : BlockTime → ℕ
+unfoldable pub numberIn : BlockTime → ℕ
 numberIn (FrameNumber n) = n
 numberIn (SampleNumber n) = n
 
