@@ -18,6 +18,11 @@ use Rattle.rfc9639.specs.Stream.{inRange, possible}
 use Rattle.rfc9639.specs.FrameByFrame.{blockIn, streamSettings}
 use Rattle.demands.proofs.Headers.{Early, Sound, header-holds}
 
+-- the size of a block is one that a stream can have
+pub size-possible : {n : ℕ} → 1 ≤ n → n ≤ 65535 → possible (record { block = StreamBlock.Known n }) ≡ true
+unfolding possible inRange
+size-possible {n} some few = rw (lt-ltb 0 n some, le-leb n 65535 few) refl
+
 module _ (s : List ℕ) where
   pub header-settings : {h : FrameHeader} {p : Place} → runAt header s (placeOf 0) ≡ gotAt h p → streamSettings s ≡ record { block = StreamBlock.Known (h .size) }
   unfolding streamSettings blockIn
@@ -39,8 +44,8 @@ module _ (s : List ℕ) where
   unfolding possible streamSettings blockIn inRange
   stream-possible = go (runAt header s (placeOf 0)) refl
     where
-      go : (x : At FrameHeader) → runAt header s (placeOf 0) ≡ x → inRange (blockIn x) ≡ true
-      go (gotAt h p) e = rw (lt-ltb 0 (h .size) (header-sound e .some), le-leb (h .size) 65535 (header-sound e .size)) refl
+      go : (x : At FrameHeader) → runAt header s (placeOf 0) ≡ x → possible (record { block = blockIn x }) ≡ true
+      go (gotAt h p) e = size-possible (header-sound e .some) (header-sound e .size)
       go (refusedAt n) e = refl
       go shortAt e = refl
 

@@ -11,10 +11,12 @@ use lib.ListN.{length, take, drop}
 use lib.Seq.{length-take-le}
 use Rattle.reading.specs.Places.{gotAt, placeOf, runAt}
 use Rattle.rfc9639.specs.declared.Settings.{Settings}
+use Rattle.rfc9639.specs.declared.StreamBlock.{StreamBlock}
 use Rattle.rfc9639.specs.Header.{header, sampleCount}
 use Rattle.rfc9639.specs.Stream.{possible, blockFits}
 use Rattle.rfc9639.specs.Frame.{body}
 use Rattle.demands.proofs.Headers.{Sound}
+use Rattle.demands.proofs.StreamSettings.{size-possible}
 use Rattle.input.proofs.Callers.{bit-is}
 use Rattle.subframe.specs.Answers.{Left}
 use Rattle.header.proofs.HeaderParts.{header-sound}
@@ -155,8 +157,14 @@ module _ (c : tie.After-decode-body) where
 enum-known-decoded : tie.Need-enum-known-decoded
 enum-known-decoded c = search needs
 
+-- The product fits with the stream's size, and with the block's own: so a reader that takes its own is refused by the
+-- promise, and not here.
 first-sample-requires : tie.Need-first-sample-requires
-first-sample-requires c κs = let k = known (c .before .before .before .before) in first-fits (set k) _ (ok k) (sound k .number)
+first-sample-requires c κs =
+    let k = known (c .before .before .before .before) in
+    let own : Settings = record { block = StreamBlock.Known (start k .args .h .size) } in
+    let number = sound k .number in
+    search (needs, first-fits (set k) _ (ok k) number, first-fits own _ (size-possible (sound k .some) (sound k .size)) number)
 
 enum-known-decoded-2 : tie.Need-enum-known-decoded-2
 enum-known-decoded-2 c = search needs
