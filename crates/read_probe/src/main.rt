@@ -93,7 +93,12 @@ fn probe(bytes: &[u8], set: Settings, fill: i32, samples: &mut [i32])
 fn number_at(input: &[u8], at: usize) -> usize
     requires { ⌜ at + 4 ≤ length (now input) ⌝ }
 {
-    probe_records::number_from_bytes(input[at], input[at + 1], input[at + 2], input[at + 3]) as usize
+    probe_records::number_from_bytes(
+        input[at],
+        input[at + 1],
+        input[at + 2],
+        input[at + 3],
+    ) as usize
 }
 
 // The flag is 0 or 1.
