@@ -55,9 +55,10 @@ def summed(data):
 
 
 def filler(length, rng):
-    """A frame of `length` bytes: 8 bits, one channel, verbatim."""
+    """A frame of `length` bytes: 8 bits, one channel, verbatim. Its blocking is variable, as that of the other frames
+    of many sizes here, so that it may stand in any stream."""
     size = length - 11
-    data = summed(header(size=size, code=7, bits=8) + b"\x02" + rng.randbytes(size))
+    data = summed(header(size=size, code=7, bits=8, variable=1) + b"\x02" + rng.randbytes(size))
     assert len(data) == length
     return Frame(data, 1, 8, size)
 
@@ -65,12 +66,12 @@ def filler(length, rng):
 def largest(rng):
     """Eight channels of 65,535 samples of 24 bits, verbatim."""
     subframes = b"".join(b"\x02" + rng.randbytes(3 * 65535) for _ in range(8))
-    return Frame(summed(header(size=65535, code=7, channels=7, bits=24) + subframes), 8, 24, 65535)
+    return Frame(summed(header(size=65535, code=7, channels=7, bits=24, variable=1) + subframes), 8, 24, 65535)
 
 
 def long_frame(length):
     """A frame of `length` bytes with 21 long runs of zeros: 24 bits, one channel, fixed order 0, Rice parameter 0."""
-    head = header(size=21, bits=24)
+    head = header(size=21, bits=24, variable=1)
     bits = 8 * (length - len(head) - 2)
     ones, place = [], 8 + 2 + 4 + 4
     for i in range(21):
@@ -89,8 +90,9 @@ def long_frame(length):
 def card_frames():
     """The frames of card.bin, as the model reads them: two channels of 256 samples of 16 bits."""
     data, out = open(os.path.join(HERE, "card.bin"), "rb").read(), []
+    block = model.stream_block(data)
     while data:
-        report = model.read(data, [0] * 512)[0]
+        report = model.read(data, [0] * 512, block)[0]
         assert report[0] == 0, report
         out.append(Frame(data[: report[1]], *report[3:6], first=report[2]))
         data = data[report[1] :]
@@ -107,7 +109,8 @@ def expected(frames, tail=b"", opening="", cut=False):
         lines.append(f"frame at byte {at}, length {len(f.data)}, first sample {f.first}, channels {f.channels}, bits {f.bits}, block size {f.size}")
         at += len(f.data)
     start = f"frames {len(frames)}, samples {sum(f.channels * f.size for f in frames)};"
-    number = 2 if cut else model.read(tail, ROOM)[0][0]
+    block = model.stream_block(frames[0].data if frames else tail)
+    number = 2 if cut else model.read(tail, ROOM, block)[0][0]
     if number == 1:
         last, status = (f"ended: {start} the card ends after a frame, at byte {at}", 0) if frames else (f"empty: {start} the card has no bytes", 1)
     else:
@@ -141,7 +144,7 @@ def repeated(frames, length, rng):
 def cards():
     rng = random.Random(12)
     small = card_frames()
-    six = Frame(frame(header(size=64, channels=5, bits=20), [verbatim([rng.randrange(-(1 << 19), 1 << 19) for _ in range(64)], 20) for _ in range(6)]), 6, 20, 64)
+    six = Frame(frame(header(size=64, channels=5, bits=20, variable=1), [verbatim([rng.randrange(-(1 << 19), 1 << 19) for _ in range(64)], 20) for _ in range(6)]), 6, 20, 64)
     big = largest(rng)
     odd = [small[0], six, filler(9001, rng), small[3], filler(65546, rng), small[1]]
     whole = small * 3
@@ -176,8 +179,32 @@ def cards():
     for name, tail in wrong.items():
         yield f"{name} at the start", tail, expected([], tail)
         yield f"{name} after frames", joined(whole, tail), expected(whole, tail)
+    yield from nights(rng)
     yield from long_ones(small)
     yield from streams(small)
+
+
+def piece(size, number, first, rng):
+    """A frame of a stream with fixed blocking: 8 bits, one channel, verbatim."""
+    return Frame(summed(header(size=size, bits=8, number=number) + b"\x02" + rng.randbytes(size)), 1, 8, size, first)
+
+
+def nights(rng):
+    """Streams with fixed blocking: the size of their blocks is that of the first frame, also where the window starts at
+    a smaller block."""
+    for name, size, rest, count in [("a night", 300, 300, 5), ("a night longer than the window", 4096, 2048, 1300)]:
+        night = [piece(rest if k else size, k, size * k, rng) for k in range(count)]
+        short = piece(17, count, size * count, rng)
+        yield f"{name}, a short last block", joined(night + [short]), expected(night + [short])
+        after = [short, piece(size, count + 1, size * (count + 1), rng)]
+        yield f"{name}, a short block before the last", joined(night + after), expected(night + after)
+        larger = piece(size + 1, count, 0, rng).data
+        yield f"{name}, a larger block", joined(night, larger), expected(night, larger)
+    early = [piece(17, 0, 0, rng)]
+    yield "a short first block", joined(early, night[0].data), expected(early, night[0].data)
+    named = Frame(summed(header(size=4096, bits=8, variable=1, number=5) + b"\x02" + rng.randbytes(4096)), 1, 8, 4096, 5)
+    after = [named, piece(17, 3, 3 * 4096, rng)]
+    yield "a first block with a sample's number", joined(after), expected(after)
 
 
 def long_ones(small):

@@ -4,11 +4,14 @@ case's name, its input and its output in hex.
     python3 cases/make.py
 
 The outputs come from writer.py, and from model.py, which was compared with claxon 0.4.3 on random frames and damaged
-copies of them, and on escaped partitions, which claxon refuses, with `flac` (oracle/escaped.sh). COUNTS says how many cases a list has, and is changed by hand.
+copies of them (read as frames of a stream whose blocks have their own size, which is what claxon takes), and on escaped
+partitions, which claxon refuses, with `flac` (oracle/escaped.sh). COUNTS says how many cases a list has, and is changed
+by hand.
 """
 import hashlib
 import os
 import random
+import re
 
 import build
 import model
@@ -77,7 +80,7 @@ def accepted(rng):
     yield "flac-side-right", FLAC
     yield "trailing", WHOLE + b"\x00\x01"
     yield "trailing-sync", FLAC + b"\xff\xf8"
-    yield "row-of-three", WHOLE + FLAC + frame(mono(number=1), [constant(-5, 16)])
+    yield "row-of-three", FLAC + WHOLE + frame(mono(number=1), [constant(-5, 16)])
     yield "row-then-damaged", WHOLE + frame(mono(), [constant(1, 16)], wrong=2) + WHOLE
     for bits in (8, 12, 16, 20, 24):
         top = 1 << bits - 1
@@ -179,11 +182,15 @@ def escaped():
 
 
 def differences():
-    """The inputs of docs/DIFFERENCES.md, on which claxon, the RFC and this reader differ."""
+    """The inputs of docs/DIFFERENCES.md, on which claxon, the RFC and this reader differ. The words after an input may
+    give the stream's block size, for `read_probe`; without them the block is None, and the input is for `runner`."""
+    form = re.compile("`([0-9A-F]+)`(?:, the stream's block ([0-9]+) \\(`read_probe`\\))?")
     for line in open("../docs/DIFFERENCES.md"):
         cells = [cell.strip() for cell in line.split("|")]
         if len(cells) > 3 and cells[2].startswith("`FF"):
-            yield "difference-" + cells[1].replace(" ", "-").replace(",", ""), bytes.fromhex(cells[2].strip("`"))
+            text, block = form.fullmatch(cells[2]).groups()
+            name = "difference-" + cells[1].replace(" ", "-").replace(",", "")
+            yield name, bytes.fromhex(text), None if block is None else int(block)
 
 
 def sound(frames):
@@ -201,6 +208,8 @@ def published():
     assert hashlib.md5(sound([WHOLE])).hexdigest() == "3e84b41807dc690307586a3dad1a2e0f"
     assert hashlib.md5(sound(D2)).hexdigest() == "d5b0564975e98b8d8b930422757b8103"
     assert hashlib.md5(sound([RFC3])).hexdigest() == "f8f9e396f5cbcfc6dc807f9977906b32"
+    # The blocks of the stream in D.2 have 16 samples, and the second and last one has three.
+    assert model.read(D2[1], [0] * 6, 16)[0][2:] == (16, 2, 16, 3)
     yield "rfc9639-d1", WHOLE
     yield "rfc9639-d2", D2[0] + D2[1]
     yield "rfc9639-d2-first", D2[0]
@@ -223,16 +232,20 @@ def frame_in_sound():
     yield "frame-in-sound-hunted", cut[107:]
 
 
+def of_length(length):
+    """A frame of `length` bytes, one sample: most bytes are a unary run."""
+    data = frame(mono(), [start(8).put(0, 2).put(0, 4).put(0, 4).unary(8 * (length - 9) - 19)])
+    assert len(data) == length
+    return data
+
+
 def row_of(length):
-    """Frames in a row, `length` bytes in all but few samples: most bytes are unary runs."""
+    """Frames in a row, `length` bytes in all but few samples."""
     row = FLAC + D2[0]
     for k in range(6):
         xs = [(-1) ** i * (1000 + 17 * i + k) for i in range(16)]
         row += frame(header(size=16, bits=24, number=k), [fixed(xs, 24, 0, parameters=[0])])
-    zeros = 8 * (length - len(row) - 9) - 19
-    row += frame(mono(), [start(8).put(0, 2).put(0, 4).put(0, 4).unary(zeros)])
-    assert len(row) == length
-    return row
+    return row + of_length(length - len(row))
 
 
 def limits():
@@ -242,6 +255,43 @@ def limits():
         yield f"bytes-{length}", row_of(length)
     for length in (32767, 32768):
         yield f"bytes-{length}-and-one", row_of(length) + b"\xff"
+
+
+def plain(size, number, variable=0, wrong=0, **k):
+    """A frame of one channel, all of whose samples are equal."""
+    return frame(header(size=size, number=number, variable=variable, **k), [constant(number % 1000 - 500, 16)], wrong=wrong)
+
+
+def streams():
+    """Frames in a row, read with the block size in the first one's header. Under fixed blocking it counts for the first
+    sample numbers, and a larger block is refused 9."""
+    night = [plain(16, number) for number in range(3)]
+    row = lambda *frames: b"".join(frames)
+    yield "stream-short-last", row(*night, plain(5, 3))
+    yield "stream-short-last-of-one", row(*night, plain(1, 3))
+    yield "stream-short-second", row(night[0], plain(3, 1))
+    yield "stream-short-in-the-middle", row(*night[:2], plain(5, 2), plain(16, 3))
+    yield "stream-larger", row(*night[:2], plain(17, 2), plain(16, 3))
+    yield "stream-larger-cut", row(*night[:2], header(size=17, number=2))
+    yield "stream-larger-header-sum", row(*night[:2], header(size=17, number=2, wrong=1))
+    yield "stream-larger-without-bits", row(*night[:2], header(size=17, number=2, bits=0))
+    yield "stream-larger-and-no-room", row(*night[:2], plain(8193, 2))
+    yield "stream-larger-variable-and-no-room", row(*night[:2], plain(8193, 32, 1))
+    sizes = [(16, 0), (16, 16), (17, 32), (5, 49), (300, 54), (16, 354)]
+    yield "stream-larger-variable", row(*(plain(size, number, 1) for size, number in sizes))
+    yield "stream-fixed-then-variable", row(night[0], plain(17, 16, 1), plain(16, 3), plain(17, 4))
+    yield "stream-variable-then-fixed", row(plain(16, 100, 1), plain(16, 7), plain(5, 8), plain(16, 200, 1), plain(17, 9))
+    yield "stream-short-first", row(plain(5, 0), plain(16, 1))
+    yield "stream-short-first-variable", row(plain(5, 0, 1), plain(16, 5, 1), plain(5, 2), plain(16, 1))
+    yield "stream-not-from-the-start", row(plain(16, 1000), plain(16, 1001), plain(7, 1002))
+    yield "stream-largest-numbers", row(plain(300, 2147483646), plain(1, 2147483647))
+    yield "stream-refused-at-first-frame-sum", row(plain(16, 0, wrong=1), plain(16, 1))
+    yield "stream-refused-at-first-room", row(plain(8193, 0), plain(16, 1))
+    yield "stream-refused-at-first-bits", row(plain(16, 0, bits=0), plain(16, 1))
+    yield "stream-refused-at-first-subframe", row(header(size=16) + b"\x80", plain(16, 1))
+    yield "stream-refused-at-first-header", row(header(size=16, wrong=1), plain(16, 1))
+    yield "stream-refused-at-first-sync", row(b"\x00\x00", plain(16, 1))
+    yield "stream-refused-at-second", row(plain(16, 0), plain(16, 1, wrong=1), plain(16, 2))
 
 
 def cuts(name, data):
@@ -255,34 +305,121 @@ def runner_cases():
     yield from accepted(rng)
     yield from claxon_sides()
     yield from escaped()
-    yield from differences()
+    yield from ((name, data) for name, data, block in differences() if block is None)
     yield from cuts("whole", WHOLE)
     yield from cuts("flac", FLAC)
     yield from written()
     yield from published()
     yield from frame_in_sound()
+    yield from streams()
     yield from limits()
 
 
-def probe_cases():
-    """The room, the fill sample and the bytes: every row of the table of what the buffer holds."""
-    rng = random.Random(204)
-    at = lambda room, fill: model.little(room, 4) + model.little(fill, 4)
+def probe(room, fill, block=None, given=None, stream=(0, 0, 0), strict=0, wide=(0, 0)):
+    """The head of `read_probe`'s input. A block of None is not given. `given` sets the flag whatever the block is. The
+    stream's record, the strict setting and the second buffer belong to requests to come."""
+    flag = int(block is not None) if given is None else given
+    fields = [(room, 4), (fill, 4), (flag, 1), (block or 0, 4), (stream[0], 1), (stream[1], 1), (stream[2], 4), (strict, 1), (wide[0], 4), (wide[1], 8)]
+    return b"".join(model.little(v, n) for v, n in fields)
+
+
+def probe_buffers():
+    """Every row of the table of what the buffer holds. The stream's blocks have the size in the input's own header, and
+    are unknown where there is none: so that each input has the answer that it has by itself."""
+    own = lambda room, fill, data: probe(room, fill, model.stream_block(data)) + data
     for name, data in refused():
-        yield name, at(6, -77) + data
+        yield name, own(6, -77, data)
     for name, data in [("frame", WHOLE), ("frame-sum", WHOLE[:-1] + b"\x00"), ("cut", WHOLE[:-1]), ("flac", FLAC)]:
         for room in (0, 1, 2, 3, 31, 32, 33):
-            yield f"{name}-room-{room}", at(room, 7) + data
+            yield f"{name}-room-{room}", own(room, 7, data)
     for room in (23, 24, 25):
-        yield f"escaped-room-{room}", at(room, 7) + RFC3
+        yield f"escaped-room-{room}", own(room, 7, RFC3)
     # RFC 9639's escaped partition starts at bit 134; its head has nine bits.
     for n in range(16, 19):
-        yield f"escaped-cut-{n}", at(25, 7) + RFC3[:n]
-    yield "room-65537", at(65537, 1) + WHOLE
-    yield "fill-least", at(3, -(1 << 31)) + WHOLE
+        yield f"escaped-cut-{n}", own(25, 7, RFC3[:n])
+    yield "fill-least", own(3, -(1 << 31), WHOLE)
+    yield from ((f"cut-{n}", own(3, 9, WHOLE[:n])) for n in range(len(WHOLE)))
+
+
+def probe_blocks():
+    """Sizes of the stream's blocks, for a frame of four samples: none that a stream can have, smaller than the frame's,
+    the same, larger, and unknown."""
+    four = {f"{'variable' if variable else 'fixed'}-{number}": plain(4, number, variable) for variable in (0, 1) for number in (0, 5)}
+    for size in (0, 1, 3, 4, 5, 65535, 65536, (1 << 32) - 1, None):
+        for name, data in four.items():
+            yield f"block-{'unknown' if size is None else size}-{name}", probe(6, -77, size) + data
+    # The flag says that no size is given, so the size is passed over.
+    for size in (3, 65536, (1 << 32) - 1):
+        yield f"block-not-given-{size}", probe(6, -77, size, given=0) + four["fixed-5"]
+    for number, size, variable in [((1 << 31) - 1, 65535, 0), ((1 << 31) - 1, 1, 0), ((1 << 31) - 1, None, 0), ((1 << 36) - 1, 1, 1), ((1 << 36) - 1, None, 1)]:
+        yield f"block-{size or 'unknown'}-number-{number}", probe(2, 0, size) + plain(1, number, variable)
+    for size in (65534, 65535):
+        yield f"block-{size}-largest", probe(3, 7, size) + plain(65535, 1)
+    for name, data, size in differences():
+        if size is not None:
+            yield name, probe(33, 7, size) + data
+
+
+def probe_block_order():
+    """Which check comes first where several would refuse: a size that no stream has, then the header with its CRC-8, bits
+    code 0, the larger block, the room, and what comes after."""
+    bad = plain(4, 5, wrong=1)
+    for size in (0, 65536, (1 << 32) - 1):
+        yield f"block-{size}-empty", probe(3, 7, size)
+    for size, data, name in [(0, b"\x00\x00", "not-sync"), (65536, header(size=4, wrong=1), "header-sum"), (0, bad, "frame-sum"), (65536, header(size=4, bits=0), "stream-bits")]:
+        yield f"block-{size}-{name}", probe(3, 7, size) + data
+    for room in (0, 2, 3, 4, 5):
+        yield f"larger-room-{room}", probe(room, 7, 3) + plain(4, 5)
+        yield f"larger-variable-room-{room}", probe(room, 7, 3) + plain(4, 5, 1)
+        yield f"same-room-{room}", probe(room, 7, 4) + plain(4, 5)
+        yield f"unknown-room-{room}", probe(room, 7) + plain(4, 5)
+    larger = lambda data: probe(6, 7, 3) + data
+    yield "larger-stream-bits", larger(header(size=4, bits=0))
+    yield "larger-header-sum", larger(header(size=4, wrong=1))
+    yield "larger-stream-bits-header-sum", larger(header(size=4, bits=0, wrong=1))
+    yield "larger-bits-code-7", larger(header(size=4, depth=7))
+    yield "larger-header-cut", larger(header(size=4)[:-1])
+    yield "larger-header-alone", larger(header(size=4))
+    yield "larger-subframe-zero-bit", larger(header(size=4) + b"\x80")
+    yield "larger-frame-sum", larger(bad)
+    yield "same-header-alone", probe(6, 7, 4) + header(size=4)
+    yield "same-frame-sum", probe(6, 7, 4) + bad
+    yield "same-eight-channels", probe(40, 7, 4) + frame(header(size=4, channels=7), [constant(c, 16) for c in range(8)])
+
+
+def probe_layout():
+    """What the program itself refuses, by 11 alone; what it passes over; a head that is cut; and its longest input."""
     yield "no-input", b""
-    yield "room-alone", at(2, 0)[:4]
-    yield from ((f"cut-{n}", at(3, 9) + WHOLE[:n]) for n in range(len(WHOLE)))
+    yield "room-alone", probe(2, 0)[:4]
+    for room in (65537, (1 << 32) - 1):
+        yield f"room-{room}", probe(room, 1, 1) + WHOLE
+        yield f"wide-room-{room}", probe(3, 1, 1, wide=(room, 0)) + WHOLE
+    for flag in (2, 3, 128, 255):
+        yield f"block-given-{flag}", probe(3, 1, 1, given=flag) + WHOLE
+    yield "block-given-2-empty", probe(0, 0, given=2)
+    for n in (0, 1, 2, 17, 300):
+        yield f"wide-room-{n}", probe(3, 7, 1, wide=(n, -5)) + WHOLE
+    yield "wide-room-refused", probe(3, 7, 1, wide=(3, 1 << 62)) + WHOLE[:-1]
+    yield "wide-room-block-0", probe(3, 7, 0, wide=(2, 1)) + WHOLE
+    yield "wide-room-without-room", probe(0, 7, 1, wide=(2, 1)) + WHOLE
+    yield "later-fields-odd", probe(3, 7, 1, stream=(7, 255, (1 << 32) - 1), strict=9, wide=(1, -1)) + WHOLE
+    yield "later-fields-set", probe(3, 7, 1, stream=(1, 8, 44100), strict=1) + WHOLE
+    yield "later-fields-wrong-bits", probe(3, 7, 1, stream=(1, 33, 0), strict=0) + WHOLE
+    whole = probe(3, -0x7E7D7C7C, 0x0201, stream=(1, 16, 44100), strict=1, wide=(2, 0x1112131415161718))
+    for n in range(len(whole) + 1):
+        yield f"head-{n}", whole[:n]
+    for n in (1, 2):
+        yield f"head-of-room-257-{n}", probe(257, 0)[:n]
+    # Of a longer frame the last byte is left unread.
+    for length in (65536, 65537):
+        yield f"bytes-{length}", probe(2, 7, 1) + of_length(length)
+
+
+def probe_cases():
+    yield from probe_buffers()
+    yield from probe_blocks()
+    yield from probe_block_order()
+    yield from probe_layout()
 
 
 def settings(code, bits, size, blocking=0, number=0):
@@ -353,6 +490,7 @@ def write_probe_cases():
 def write(name, cases, program):
     rows = [f"{case} {data.hex() or '-'} {program(data).hex() or '-'}\n" for case, data in cases]
     assert all(len(row) < 200000 for row in rows)
+    assert len({row.split(" ")[0] for row in rows}) == len(rows)
     with open(name, "w") as out:
         out.writelines(rows)
     print(name, len(rows))

@@ -95,7 +95,15 @@ def header(s):
     before = s.data[: s.at // 8]
     require(s.bits(8) == crc(before, 8, 0x07), 6)
     bits = [0, 8, 12, 0, 16, 20, 24][depth]
-    return channels, bits, block, n if sync % 2 else block * n
+    return channels, bits, block, sync % 2 == 1, n
+
+
+def stream_block(data):
+    """The block size in the header that starts these bytes, whatever its blocking; None if there is no header."""
+    try:
+        return header(Input(data))[2]
+    except Stop:
+        return None
 
 
 def residual(s, warm, n):
@@ -172,54 +180,93 @@ def join(code, n, xs):
     return xs
 
 
-def read(data, buffer):
-    """(number, consumed, first, channels, bits, block size), and the buffer afterwards."""
+def first_sample(variable, n, block):
+    """None: the number counts blocks, and their size is unknown."""
+    if variable:
+        return n
+    return None if block is None else block * n
+
+
+def read(data, buffer, block=None):
+    """(number, consumed, first, channels, bits, block size), and the buffer afterwards. `block` is the size of the
+    stream's blocks; None means that it is unknown. The first sample's number is None where it is unknown, and after a
+    refusal."""
     s, zeroed = Input(data), 0
     try:
-        code, bits, block, first = header(s)
+        require(block is None or 1 <= block <= 65535, 11)
+        # Only then, so that a bad size is refused on empty input too.
+        require(len(data) > 0, 1)
+        code, bits, size, variable, n = header(s)
         channels = code + 1 if code < 8 else 2
         require(bits != 0, 8)
-        require(channels * block <= len(buffer), 7)
+        require(variable or block is None or size <= block, 9)
+        require(channels * size <= len(buffer), 7)
         at = s.at
         s.bits(1)
-        s.at, zeroed = at, channels * block
+        s.at, zeroed = at, channels * size
         widths = [bits] * channels if code < 8 else [bits + (code == 9), bits + (code != 9)]
-        xs = [x for w in widths for x in subframe(s, w, block)]
+        xs = [x for w in widths for x in subframe(s, w, size)]
         s.bits(-s.at % 8)
         before = data[: s.at // 8]
         require(s.bits(16) == crc(before, 16, 0x8005), 10)
-        samples = join(code, block, xs)
-        return (0, s.at // 8, first, channels, bits, block), samples + buffer[zeroed:]
+        samples = join(code, size, xs)
+        return (0, s.at // 8, first_sample(variable, n, block), channels, bits, size), samples + buffer[zeroed:]
     except Stop as stop:
-        n = 1 if not data else stop.number
-        return (n, 0, 0, 0, 0, 0), [0] * zeroed + buffer[zeroed:]
+        return (stop.number, 0, None, 0, 0, 0), [0] * zeroed + buffer[zeroed:]
 
 
 def little(v, n):
     return (v % (1 << (8 * n))).to_bytes(n, "little")
 
 
-def report(kind, r):
-    return bytes([kind]) + little(r[1], 4) + little(r[2], 8) + little(r[3], 1) + little(r[4], 1) + little(r[5], 2)
+def shape(r):
+    return little(r[3], 1) + little(r[4], 1) + little(r[5], 2)
 
 
 def runner(data):
-    """What the program `runner` writes."""
+    """What the program `runner` writes. It reads all frames with the block size of the first one's header."""
     data, out, buffer = data[:32768], [], [0] * 8192
+    block = stream_block(data)
     while True:
-        r, buffer = read(data, buffer)
+        r, buffer = read(data, buffer, block)
         if r[0]:
             return b"".join(out) + bytes([3, r[0]])
-        out.append(report(1, r))
+        # A first frame that is accepted has a header, so a size is known from there on.
+        assert r[2] is not None
+        out.append(b"\x01" + little(r[1], 4) + little(r[2], 8) + shape(r))
         out += [b"\x02" + little(x, 4) for x in buffer[: r[3] * r[5]]]
         data = data[r[1] :]
 
 
+PROBE_LIMIT = 65536
+
+
+class Head:
+    """The numbers before the bytes of a probe's input. Bytes that are not there count as zeros."""
+
+    def __init__(self, data):
+        self.data, self.at = data, 0
+
+    def number(self, n):
+        part = self.data[self.at : self.at + n]
+        self.at += n
+        return int.from_bytes(part, "little")
+
+
 def read_probe(data):
     """What the program `read_probe` writes."""
-    head = data[:8] + bytes(8 - len(data[:8]))
-    room, fill = int.from_bytes(head[:4], "little"), signed(32, int.from_bytes(head[4:], "little"))
-    if room > 65536:
-        return report(11, (11, 0, 0, 0, 0, 0))
-    r, buffer = read(data[8 : 8 + 32768], [fill] * room)
-    return report(r[0], r) + b"".join(little(x, 4) for x in buffer)
+    head = Head(data)
+    room, fill = head.number(4), signed(32, head.number(4))
+    given, block = head.number(1), head.number(4)
+    # The stream's record and the strict setting, which are passed over.
+    head.number(1 + 1 + 4 + 1)
+    wide_room = head.number(4)
+    # What the second buffer holds, passed over too.
+    head.number(8)
+    if room > PROBE_LIMIT or given > 1 or wide_room > PROBE_LIMIT:
+        return b"\x0b"
+    r, buffer = read(data[head.at :][:PROBE_LIMIT], [fill] * room, block if given else None)
+    out = little(r[0], 1) + little(r[1], 4) + little(int(r[2] is not None), 1) + little(r[2] or 0, 8) + shape(r)
+    # Eight parts of eight bytes: where the bits went.
+    out += bytes(8 * 8)
+    return out + b"".join(little(x, 4) for x in buffer) + bytes(8 * wide_room)

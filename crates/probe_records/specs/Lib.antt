@@ -1,2 +1,3 @@
 -- Numbers as bytes, lowest byte first.
+pub mod FirstKnown
 pub mod LittleEndian

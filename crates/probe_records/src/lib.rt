@@ -1,11 +1,13 @@
 // Numbers as bytes, lowest byte first, for the records of `runner` and the probe programs. Each function answers on
 // every argument.
+use rfc9639::FirstSample;
 ghost use mathlib.Core.Path.{_≡_};
 ghost use mathlib.Core.List.{_∷_, _++_};
 ghost use Prim.Native.Nat.{_+_, _*_, _%_};
 ghost use Rattle.rfc9639.specs.Integers.{low, wrapped};
 ghost use lib.IntN.{pos};
 ghost use Rattle.probe_records.specs.LittleEndian.{little};
+ghost use Rattle.probe_records.specs.FirstKnown.{firstKnown, firstOrZero};
 
 // The low byte.
 fn low_byte(v: u64) -> u8
@@ -40,6 +42,62 @@ pub fn report_bytes(
         low_byte(first / 256 / 256 / 256 / 256 / 256),
         low_byte(first / 256 / 256 / 256 / 256 / 256 / 256),
         low_byte(first / 256 / 256 / 256 / 256 / 256 / 256 / 256),
+        low_byte(channels),
+        low_byte(bits),
+        low_byte(size),
+        low_byte(size / 256),
+    ]
+}
+
+// Whether the number of a frame's first sample is known: 1, or 0.
+fn first_known(first: FirstSample) -> u64
+    ensures { λ r. ⌜ r ≡ firstKnown first ⌝ }
+{
+    match first {
+        FirstSample::Unknown => 0,
+        FirstSample::Known(_) => 1,
+    }
+}
+
+// The number of a frame's first sample, and 0 where it is unknown.
+pub fn first_or_zero(first: FirstSample) -> u64
+    ensures { λ r. ⌜ r ≡ firstOrZero first ⌝ }
+{
+    match first {
+        FirstSample::Unknown => 0,
+        FirstSample::Known(n) => n,
+    }
+}
+
+// An answer of the reader: its number, the bytes consumed, whether the number of the first sample is known, that number,
+// the channels, the bits and the block size.
+pub fn answer_bytes(
+    number: u8,
+    consumed: u64,
+    first: FirstSample,
+    channels: u64,
+    bits: u64,
+    size: u64,
+) -> [u8; 18]
+    ensures { λ r. ⌜ r ≡ number ∷ (little 4 consumed ++ (little 1 (firstKnown first) ++ (little 8 (firstOrZero first) ++ (little 1 channels ++ (little 1 bits ++ little 2 size))))) ⌝ }
+{
+    let known = first_known(first);
+    let start = first_or_zero(first);
+    [
+        number,
+        low_byte(consumed),
+        low_byte(consumed / 256),
+        low_byte(consumed / 256 / 256),
+        low_byte(consumed / 256 / 256 / 256),
+        low_byte(known),
+        low_byte(start),
+        low_byte(start / 256),
+        low_byte(start / 256 / 256),
+        low_byte(start / 256 / 256 / 256),
+        low_byte(start / 256 / 256 / 256 / 256),
+        low_byte(start / 256 / 256 / 256 / 256 / 256),
+        low_byte(start / 256 / 256 / 256 / 256 / 256 / 256),
+        low_byte(start / 256 / 256 / 256 / 256 / 256 / 256 / 256),
         low_byte(channels),
         low_byte(bits),
         low_byte(size),

@@ -1,27 +1,40 @@
-// Shows one read from outside, with all of its buffer. Standard input, little-endian: the room (4), a fill sample (4),
-// then the frame's bytes, up to 32 KiB. Missing bytes of the room and the fill sample count as zeros. The buffer is
-// filled, then read into once. Written: the answer's number (1), consumed (4), first sample number (8), channels (1),
-// bits (1), block size (2), then the whole buffer (4 for each sample). A room above 65,536 is answered by 11, zeros for
-// the other numbers, and no samples.
+// Shows one read from outside, with all of its buffer. Standard input, numbers little-endian:
+//     room (4), fill (4)                     how many samples are lent, and what each of them holds
+//     block given (1), block (4)             0: the size of the stream's blocks is unknown; 1: it is this one
+//     stream given, bits, rate (1, 1, 4)     for W-206 of document 02: passed over
+//     strict (1)                             for W-210: passed over
+//     wide room (4), wide fill (8)           for W-209: the fill is passed over
+//     the frame's bytes                      at most 65,536; more is left unread
+// Bytes that are missing before the frame count as zeros. Written:
+//     number (1), consumed (4), first sample number known (1), first sample number (8), channels (1), bits (1), block
+//     size (2)                               the answer
+//     eight parts (8 each)                   for W-213: zeros
+//     samples (4 each)                       all that were lent
+//     wide room places (8 each)              for W-209: zeros
+// If a room is above 65,536, or the flag `block given` is neither 0 nor 1, the only byte written is 11.
 use frame::ReadAnswer;
 use libc::STDIN_FILENO;
 use libc::STDOUT_FILENO;
+use rfc9639::FirstSample;
+use rfc9639::Settings;
+use rfc9639::StreamBlock;
 ghost use mathlib.Core.Path.{_≡_};
-ghost use Prim.Native.Nat.{_≤_};
+ghost use Prim.Native.Nat.{_+_, _≤_};
 ghost use lib.ListN.{length};
 
 fn write_refusal(number: u8) {
-    let bytes = probe_records::report_bytes(number, 0, 0, 0, 0, 0);
+    let bytes = probe_records::answer_bytes(number, 0, FirstSample::Unknown, 0, 0, 0);
     io::write_all(STDOUT_FILENO, &bytes);
 }
 
 fn write_answer(answer: ReadAnswer) {
     match answer {
         ReadAnswer::Frame(f) => {
-            let bytes = probe_records::report_bytes(
+            let first = f.first;
+            let bytes = probe_records::answer_bytes(
                 0,
                 f.consumed as u64,
-                f.first,
+                first,
                 f.channels as u64,
                 f.bits as u64,
                 f.size as u64,
@@ -30,6 +43,20 @@ fn write_answer(answer: ReadAnswer) {
         }
         ReadAnswer::Refused(e) => write_refusal(error::number_of(e)),
     }
+}
+
+fn write_first(bytes: &[u8], n: usize)
+    requires { ⌜ (length (now bytes) ≡ 524288) × (n ≤ 524288) ⌝ }
+{
+    io::write_all(STDOUT_FILENO, &bytes[..n]);
+}
+
+// Places of eight bytes, at once: one write for each would be slow.
+fn write_zeros(places: usize)
+    requires { ⌜ places ≤ 65536 ⌝ }
+{
+    let zeros = [0u8; 524288];
+    write_first(&zeros, 8 * places);
 }
 
 fn write_samples(samples: &[i32])
@@ -48,7 +75,8 @@ fn write_samples(samples: &[i32])
     io::write_all(STDOUT_FILENO, &out[..4 * samples.len()]);
 }
 
-fn probe(bytes: &[u8], fill: i32, samples: &mut [i32])
+// Fills the samples, reads once, and writes the answer and the samples.
+fn probe(bytes: &[u8], set: Settings, fill: i32, samples: &mut [i32])
     requires { ⌜ length (now samples) ≤ 65536 ⌝ }
 {
     let mut i = 0;
@@ -56,33 +84,63 @@ fn probe(bytes: &[u8], fill: i32, samples: &mut [i32])
         samples[i] = fill;
         i += 1;
     }
-    write_answer(frame::read_frame(bytes, samples));
+    write_answer(frame::read_frame(bytes, set, samples));
+    write_zeros(8);
     write_samples(samples);
 }
 
-// Where the frame's bytes end. They start after the eight bytes of the room and the fill sample.
-fn end_of(n: usize) -> usize
-    requires { ⌜ n ≤ 32776 ⌝ }
-    ensures { λ r. ⌜ (8 ≤ r) × (r ≤ 32776) ⌝ }
+// The number in the four bytes from a place on.
+fn number_at(input: &[u8], at: usize) -> usize
+    requires { ⌜ at + 4 ≤ length (now input) ⌝ }
 {
-    if n < 8 { 8 } else { n }
+    probe_records::number_from_bytes(
+        input[at],
+        input[at + 1],
+        input[at + 2],
+        input[at + 3],
+    ) as usize
+}
+
+// The flag is 0 or 1.
+fn settings_of(given: u8, block: usize) -> Settings {
+    if given == 0 {
+        Settings {
+            block: StreamBlock::Unknown,
+        }
+    } else {
+        Settings {
+            block: StreamBlock::Known(block),
+        }
+    }
+}
+
+// Where the frame's bytes end. They start after the 32 bytes of the settings and rooms.
+fn end_of(n: usize) -> usize
+    requires { ⌜ n ≤ 65568 ⌝ }
+    ensures { λ r. ⌜ (32 ≤ r) × (r ≤ 65568) ⌝ }
+{
+    if n < 32 { 32 } else { n }
 }
 
 fn run(input: &[u8], n: usize, samples: &mut [i32])
-    requires { ⌜ (length (now input) ≡ 32776) × ((n ≤ length (now input)) × (length (now samples) ≡ 65536)) ⌝ }
+    requires { ⌜ (length (now input) ≡ 65568) × ((n ≤ length (now input)) × (length (now samples) ≡ 65536)) ⌝ }
 {
-    let room = probe_records::number_from_bytes(input[0], input[1], input[2], input[3]) as usize;
+    let room = number_at(input, 0);
     let fill = probe_records::sample_from_bytes(input[4], input[5], input[6], input[7]);
-    if samples.len() < room {
-        write_refusal(11);
+    let given = input[8];
+    let wide = number_at(input, 20);
+    if 65536 < room || 65536 < wide || 1 < given {
+        io::write_all(STDOUT_FILENO, &[11]);
         return;
     }
+    let set = settings_of(given, number_at(input, 9));
     let end = end_of(n);
-    probe(&input[8..end], fill, &mut samples[..room]);
+    probe(&input[32..end], set, fill, &mut samples[..room]);
+    write_zeros(wide);
 }
 
 fn main() {
-    let mut input = [0u8; 32776];
+    let mut input = [0u8; 65568];
     let mut samples = [0i32; 65536];
     let n = io::read_full(STDIN_FILENO, &mut input);
     run(&input, n, &mut samples);

@@ -1,18 +1,23 @@
 // Reads frame after frame from up to 32 KiB of standard input into a buffer of 8,192 samples, and writes
 // little-endian records. 01: consumed (4), first sample number (8), channels (1), bits (1), block size (2). 02, for
-// each sample in the buffer's order: the sample (4). 03: the number of the refusal (1), which ends the run.
+// each sample in the buffer's order: the sample (4). 03: the number of the refusal (1), which ends the run. All frames
+// are read as of a stream whose blocks have the size in the first frame's header.
 use frame::Accepted;
 use frame::ReadAnswer;
 use libc::STDIN_FILENO;
 use libc::STDOUT_FILENO;
+use rfc9639::Settings;
 ghost use Prim.Native.Nat.{_*_, _≤_};
 ghost use lib.ListN.{length};
 
+// The first sample's number is known in every frame that is read: the first frame has a header, so its size is the
+// stream's. If it were unknown, its eight bytes would be zeros.
 fn write_report(f: Accepted) {
+    let first = f.first;
     let bytes = probe_records::report_bytes(
         1,
         f.consumed as u64,
-        f.first,
+        probe_records::first_or_zero(first),
         f.channels as u64,
         f.bits as u64,
         f.size as u64,
@@ -38,11 +43,11 @@ fn write_samples(samples: &[i32], n: usize)
 }
 
 // Writes what was read at a place, and returns the next place: the same one after a refusal.
-fn step(bytes: &[u8], place: usize, samples: &mut [i32]) -> usize
+fn step(bytes: &[u8], place: usize, set: Settings, samples: &mut [i32]) -> usize
     requires { ⌜ (place ≤ length (now bytes)) × (length (now samples) ≤ 8192) ⌝ }
     ensures { λ r. ⌜ (place ≤ r) × (r ≤ length (now (bytes .entry))) ⌝ }
 {
-    let next = walk::read_next(bytes, place, samples);
+    let next = walk::read_next(bytes, place, set, samples);
     let answer = next.answer;
     match answer {
         ReadAnswer::Frame(f) => {
@@ -57,13 +62,15 @@ fn step(bytes: &[u8], place: usize, samples: &mut [i32]) -> usize
     }
 }
 
-// Reads frame after frame. A step that does not move ends the run; any other step leaves fewer bytes.
+// Reads frame after frame, all with the settings that the first one gives. A step that does not move ends the run; any
+// other step leaves fewer bytes.
 fn run(bytes: &[u8], samples: &mut [i32])
     requires { ⌜ length (now samples) ≤ 8192 ⌝ }
 {
+    let set = walk::stream_settings(bytes);
     let mut place = 0;
     loop {
-        let next = step(bytes, place, samples);
+        let next = step(bytes, place, set, samples);
         if next == place {
             return;
         }

@@ -7,10 +7,10 @@ use Rattle.read_probe.proofs.probe.Statement.{statement}
 use Rattle.read_probe.proofs.probe.Tie as tie
 
 abbrev Inv-loop : tie.InvT-loop
-Inv-loop bytes fill samples₀ i₀ samples i = (i ≤ length samples₀) × (length samples ≡ length samples₀)
+Inv-loop bytes set fill samples₀ i₀ samples i = (i ≤ length samples₀) × (length samples ≡ length samples₀)
 
 abbrev μ-loop : tie.MeasureT-loop
-μ-loop bytes fill samples₀ i₀ samples i = length samples₀ - i
+μ-loop bytes set fill samples₀ i₀ samples i = length samples₀ - i
 
 loop-holds : tie.Need-loop-holds Inv-loop μ-loop
 loop-holds c = search needs
@@ -36,6 +36,9 @@ read-frame-requires c κs = search needs
 write-answer-requires : tie.Need-write-answer-requires Inv-loop μ-loop
 write-answer-requires c κs = search needs
 
+write-zeros-requires : tie.Need-write-zeros-requires Inv-loop μ-loop
+write-zeros-requires c κs = search needs
+
 write-samples-requires : tie.Need-write-samples-requires Inv-loop μ-loop
 write-samples-requires c κs = search needs
 
@@ -59,6 +62,7 @@ probe-spec =
     loop-again
     read-frame-requires
     write-answer-requires
+    write-zeros-requires
     write-samples-requires
     same-length
     returns)

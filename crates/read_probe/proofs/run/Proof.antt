@@ -7,20 +7,8 @@ use lib.Seq.{length-take-le}
 use Rattle.read_probe.proofs.run.Statement.{statement}
 use Rattle.read_probe.proofs.run.Tie as tie
 
-shared-slice-read-number-from-bytes : tie.Need-shared-slice-read-number-from-bytes
-shared-slice-read-number-from-bytes c = search needs
-
-shared-slice-read-number-from-bytes-2 : tie.Need-shared-slice-read-number-from-bytes-2
-shared-slice-read-number-from-bytes-2 c = search needs
-
-shared-slice-read-number-from-bytes-3 : tie.Need-shared-slice-read-number-from-bytes-3
-shared-slice-read-number-from-bytes-3 c = search needs
-
-shared-slice-read-number-from-bytes-4 : tie.Need-shared-slice-read-number-from-bytes-4
-shared-slice-read-number-from-bytes-4 c = search needs
-
-number-from-bytes-requires : tie.Need-number-from-bytes-requires
-number-from-bytes-requires c κs = search needs
+number-at-requires : tie.Need-number-at-requires
+number-at-requires c κs = search needs
 
 shared-slice-read-sample-from-bytes : tie.Need-shared-slice-read-sample-from-bytes
 shared-slice-read-sample-from-bytes c = search needs
@@ -37,11 +25,26 @@ shared-slice-read-sample-from-bytes-4 c = search needs
 sample-from-bytes-requires : tie.Need-sample-from-bytes-requires
 sample-from-bytes-requires c κs = search needs
 
-write-refusal-requires : tie.Need-write-refusal-requires
-write-refusal-requires c κs = search needs
+shared-slice-read-given : tie.Need-shared-slice-read-given
+shared-slice-read-given c = search needs
+
+number-at-requires-2 : tie.Need-number-at-requires-2
+number-at-requires-2 c κs = search needs
+
+slice-aggregate-write-all : tie.Need-slice-aggregate-write-all
+slice-aggregate-write-all c = search needs
+
+write-all-requires : tie.Need-write-all-requires
+write-all-requires c κs = search needs
 
 returns : tie.Need-returns
 returns c = search needs
+
+number-at-requires-3 : tie.Need-number-at-requires-3
+number-at-requires-3 c κs = search needs
+
+settings-of-requires : tie.Need-settings-of-requires
+settings-of-requires c κs = search needs
 
 end-of-requires : tie.Need-end-of-requires
 end-of-requires c κs = search needs
@@ -64,6 +67,9 @@ slice-aggregate-probe c = sym (length-take-le _ _ (search needs))
 probe-requires : tie.Need-probe-requires
 probe-requires c κs = simp length-take (omega arith)
 
+write-zeros-requires : tie.Need-write-zeros-requires
+write-zeros-requires c κs = search needs
+
 same-length : tie.Need-same-length
 same-length c = search needs
 
@@ -74,18 +80,19 @@ pub run-spec : {M : Type 1} → statement M
 run-spec =
     tie.close
     (tie.spec
-    shared-slice-read-number-from-bytes
-    shared-slice-read-number-from-bytes-2
-    shared-slice-read-number-from-bytes-3
-    shared-slice-read-number-from-bytes-4
-    number-from-bytes-requires
+    number-at-requires
     shared-slice-read-sample-from-bytes
     shared-slice-read-sample-from-bytes-2
     shared-slice-read-sample-from-bytes-3
     shared-slice-read-sample-from-bytes-4
     sample-from-bytes-requires
-    write-refusal-requires
+    shared-slice-read-given
+    number-at-requires-2
+    slice-aggregate-write-all
+    write-all-requires
     returns
+    number-at-requires-3
+    settings-of-requires
     end-of-requires
     sub-probe
     part-probe-start
@@ -93,5 +100,6 @@ run-spec =
     slice-relend-prefix-probe
     slice-aggregate-probe
     probe-requires
+    write-zeros-requires
     same-length
     returns-2)

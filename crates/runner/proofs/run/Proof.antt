@@ -7,10 +7,13 @@ use Rattle.runner.proofs.run.Statement.{statement}
 use Rattle.runner.proofs.run.Tie as tie
 
 abbrev Inv-loop : tie.InvT-loop
-Inv-loop bytes samples₀ place₀ samples place = (place ≤ length bytes) × (length samples ≡ length samples₀)
+Inv-loop bytes samples₀ set place₀ samples place = (place ≤ length bytes) × (length samples ≡ length samples₀)
 
 abbrev μ-loop : tie.MeasureT-loop
-μ-loop bytes samples₀ place₀ samples place = length bytes - place
+μ-loop bytes samples₀ set place₀ samples place = length bytes - place
+
+stream-settings-requires : tie.Need-stream-settings-requires Inv-loop μ-loop
+stream-settings-requires c κs = search needs
 
 loop-holds : tie.Need-loop-holds Inv-loop μ-loop
 loop-holds c = search needs
@@ -33,4 +36,4 @@ loop-again c = search needs
 pub run-spec : {M : Type 1} → statement M
 run-spec =
     tie.close
-    (tie.spec Inv-loop μ-loop loop-holds step-requires same-length returns loop-less loop-again)
+    (tie.spec Inv-loop μ-loop stream-settings-requires loop-holds step-requires same-length returns loop-less loop-again)

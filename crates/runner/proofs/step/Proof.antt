@@ -17,16 +17,16 @@ module _ (c : tie.After-answer) where
   read = c .before .before .before
 
   further : start .args .place < read .read-next .result .place
-  further = frame-moves-place (start .args .bytes .now) (start .args .place) (start .args .samples .now) (read .read-next .ensures) (c .answer .given .1)
+  further = frame-moves-place (start .args .bytes .now) (start .args .place) (start .args .set) (start .args .samples .now) (read .read-next .ensures) (c .answer .given .1)
 
   inside : read .read-next .result .place ≤ length (start .args .bytes .now)
-  inside = place-in-input (start .args .bytes .now) (start .args .place) (start .args .samples .now) (read .read-next .ensures) (c .answer .given .1)
+  inside = place-in-input (start .args .bytes .now) (start .args .place) (start .args .set) (start .args .samples .now) (read .read-next .ensures) (c .answer .given .1)
 
   within : c .answer .given .0 .0 .channels * c .answer .given .0 .0 .size ≤ length (start .args .samples .now)
-  within = frame-samples-fit (start .args .bytes .now) (start .args .place) (start .args .samples .now) (read .read-next .ensures) (c .answer .given .1)
+  within = frame-samples-fit (start .args .bytes .now) (start .args .place) (start .args .set) (start .args .samples .now) (read .read-next .ensures) (c .answer .given .1)
 
-  long : length (read .read-next .last .1 .1 .0) ≡ length (start .args .samples .now)
-  long = left-length (start .args .bytes .now) (start .args .place) (start .args .samples .now) (read .read-next .ensures)
+  long : length (read .read-next .last .1 .1 .1 .0) ≡ length (start .args .samples .now)
+  long = left-length (start .args .bytes .now) (start .args .place) (start .args .set) (start .args .samples .now) (read .read-next .ensures)
 
 read-next-requires : tie.Need-read-next-requires
 read-next-requires c κs = search needs
