@@ -11,7 +11,6 @@ use Rattle.error.specs.declared.Need.{Need}
 use Rattle.error.specs.Numbers.{numberOf}
 use Rattle.error.specs.Needs.{needsOf}
 use Rattle.rfc9639.specs.FrameByFrame.{Verdict, undecided, refuse, verdictOf}
-use Rattle.demands.proofs.FrameByFrame.{lawful}
 use Rattle.frame_list.specs.declared.window.Rest.{Rest}
 use Rattle.frame_list.specs.declared.window.Filled.{Filled}
 use Rattle.frame_list.specs.declared.Totals.{Totals}
@@ -22,8 +21,8 @@ use Rattle.frame_list.specs.declared.Last.{Last}
 use Rattle.frame_list.specs.declared.Turn.{Turn}
 use Rattle.frame_list.specs.Window.{Enough, Fills}
 use Rattle.frame_list.specs.Listing.{Listing, listed, Lists}
-use Rattle.frame_list.specs.CardProgress.{Sound, pending, ahead, Stays, Continues, Wanting, Closes, Refills, Carries, ending, Unfinished, Accounts, Stops, Turns, Runs}
-use Rattle.frame_list.proofs.ListedFrames.{goes-on-from, list-stands}
+use Rattle.frame_list.specs.CardProgress.{Sound, noFrames, pending, ahead, Stays, Continues, Wanting, Closes, Refills, Carries, ending, Unfinished, Accounts, Stops, Turns, Runs}
+use Rattle.frame_list.proofs.FirstFrame.{listed-goes-on, listed-stands}
 
 -- ---- the window's bytes
 
@@ -115,7 +114,7 @@ module _ (room : ℕ) (was : List ℕ) (card : Card) (r : Listed) (sound : Sound
 
   module _ (wait : needsOf (r .refusal) ≡ Need.Wait) where
     listed-from-place : (more : List ℕ) → listed room (card .base) (card .totals) (w ++ more) ≡ listed room (card .base + r .place) (r .totals) (drop (r .place) w ++ more)
-    listed-from-place = goes-on-from (lawful (record { room = room })) (card .base) (card .totals) w (r .place) (lists .all) (wait-undecided (r .refusal) wait)
+    listed-from-place = listed-goes-on room (card .base) (card .totals) w (r .place) (lists .all) (wait-undecided (r .refusal) wait)
 
     module _ (next : Card) (left : List ℕ) (long : length left ≡ length was) (c : Continues was read (r .place) next left) where
       abbrev keptLength : ℕ
@@ -178,7 +177,7 @@ module _ (room : ℕ) (was : List ℕ) (card : Card) (r : Listed) (sound : Sound
     same-base = refl;
     same-held = refl;
     place-fits = listed-place-held;
-    accounts = list-stands (lawful (record { room = room })) (card .base) (card .totals) w (r .place) (lists .all) (refuse-decided (r .refusal) n is k);
+    accounts = listed-stands room (card .base) (card .totals) w (r .place) (lists .all) (refuse-decided (r .refusal) n is k);
   }
 
 -- ---- from the card's first byte
@@ -195,9 +194,9 @@ pub record SoFar (room : ℕ) (w : List ℕ) (card : Card) : Type 0 where
   pub seen : List ℕ
   pub long : length seen ≡ card .base + card .held
   pub same : (more : List ℕ)
-      → listed room 0 (record { frames = 0; samples = 0 }) (seen ++ more) ≡ listed room (card .base) (card .totals) (take (card .held) w ++ more)
+      → listed room 0 (noFrames) (seen ++ more) ≡ listed room (card .base) (card .totals) (take (card .held) w ++ more)
 
-pub begin : (room : ℕ) (w : List ℕ) → SoFar room w (record { base = 0; held = 0; rest = Rest.More; totals = record { frames = 0; samples = 0 } })
+pub begin : (room : ℕ) (w : List ℕ) → SoFar room w (record { base = 0; held = 0; rest = Rest.More; totals = noFrames })
 begin room w = record { seen = []; long = refl; same = λ more. refl }
 
 module _ (room : ℕ) (w : List ℕ) (card : Card) (far : SoFar room w card) where
@@ -207,16 +206,16 @@ module _ (room : ℕ) (w : List ℕ) (card : Card) (far : SoFar room w card) whe
     seen = far .seen ++ c .added;
     long = omega (arith, length-append (far .seen) (c .added), far .long, c .long);
     same = λ more.
-        ap (listed room 0 (record { frames = 0; samples = 0 })) (append-assoc (far .seen) (c .added) more) ∙ far .same (c .added ++ more) ∙ c .same more;
+        ap (listed room 0 (noFrames)) (append-assoc (far .seen) (c .added) more) ∙ far .same (c .added ++ more) ∙ c .same more;
   }
 
-  soFar-end : listed room 0 (record { frames = 0; samples = 0 }) (far .seen) ≡ listed room (card .base) (card .totals) (take (card .held) w)
+  soFar-end : listed room 0 (noFrames) (far .seen) ≡ listed room (card .base) (card .totals) (take (card .held) w)
   soFar-end =
-      ap (listed room 0 (record { frames = 0; samples = 0 })) (sym (append-nil (far .seen))) ∙ far .same []
+      ap (listed room 0 (noFrames)) (sym (append-nil (far .seen))) ∙ far .same []
       ∙ ap (listed room (card .base) (card .totals)) (append-nil (take (card .held) w))
 
   all-accounts : (last : Last) (how : How) → Accounts room (card .base) (card .totals) (take (card .held) w) last how
-      → Accounts room 0 (record { frames = 0; samples = 0 }) (far .seen) last how
+      → Accounts room 0 (noFrames) (far .seen) last how
   all-accounts last (How.Ended x) h = soFar-end ∙ h
   all-accounts last (How.Refused x) h = λ more. far .same more ∙ h more
   all-accounts last (How.Unread error) h = record { rest = h .rest; same = λ more. far .same more ∙ h .same more }

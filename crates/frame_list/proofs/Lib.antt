@@ -3,4 +3,5 @@ pub mod WindowShift
 pub mod FillInvariant
 pub mod StreamHeaders
 pub mod ListedFrames
+pub mod FirstFrame
 pub mod CardTurns

@@ -10,6 +10,7 @@ use lib.Seq.{drop-drop, drop-append-le}
 use Rattle.error.specs.declared.Refusal.{Refusal}
 use Rattle.error.specs.Numbers.{numberOf}
 use Rattle.error.proofs.Outcome.{some-number}
+use Rattle.rfc9639.specs.declared.Settings.{Settings}
 use Rattle.rfc9639.specs.Read.{Report, refusal, Result, result, read}
 use Rattle.rfc9639.specs.FrameByFrame.{Verdict, accept, undecided, refuse, verdictOf, verdict, goesOn, answers}
 use Rattle.demands.proofs.FrameByFrame.{accept-zero, verdict-is, Lawful, answers-unrolled, lawful}
@@ -19,7 +20,7 @@ use Rattle.frame.specs.Reads.{reportOf}
 use Rattle.walk.specs.declared.Step.{Step}
 use Rattle.walk.specs.Steps.{Steps}
 use Rattle.frame_list.specs.declared.Totals.{Totals}
-use Rattle.frame_list.specs.Listing.{withFrame, Listing, listing, listed}
+use Rattle.frame_list.specs.Listing.{withFrame, Listing, listing, listedAs}
 
 -- ---- an answer
 
@@ -160,35 +161,35 @@ module _ {one : List ℕ → Result} (law : Lawful one) where
 
 -- ---- a step of a walk
 
-module _ (s : List ℕ) (room base : ℕ) where
+module _ (s : List ℕ) (set : Settings) (room base : ℕ) where
   abbrev one : List ℕ → Result
-  one = result (record { room = room })
+  one = result (record { given = set; room = room })
 
-  module _ (place : ℕ) {b left : List ℤ} {r : Step} (long : length b ≡ room) (h : Steps s place b r left) (t : Totals) where
+  module _ (place : ℕ) {b left : List ℤ} {r : Step} (long : length b ≡ room) (h : Steps s place set b r left) (t : Totals) where
     step-report : reportOf (r .answer) ≡ one (drop place s) .report
     unfolding read
-    step-report = h .answer .report ∙ ap (λ n. result (record { room = n }) (drop place s) .report) long
+    step-report = h .answer .report ∙ ap (λ n. result (record { given = set; room = n }) (drop place s) .report) long
 
     next : r .place ≡ place + one (drop place s) .report .consumed
     unfolding read
-    next = h .next ∙ ap (λ n. place + result (record { room = n }) (drop place s) .report .consumed) long
+    next = h .next ∙ ap (λ n. place + result (record { given = set; room = n }) (drop place s) .report .consumed) long
 
     pub step-frame : {f : Accepted} → r .answer ≡ ReadAnswer.Frame f
-        → listed room (base + place) t (drop place s) ≡ listed room (base + r .place) (withFrame t (f .channels) (f .size)) (drop (r .place) s)
+        → listedAs set room (base + place) t (drop place s) ≡ listedAs set room (base + r .place) (withFrame t (f .channels) (f .size)) (drop (r .place) s)
     unfolding verdictOf
     step-frame {f} e =
         let q = one (drop place s) .report in
         let is = ap reportOf (sym e) ∙ step-report in
         let sum : base + place + q .consumed ≡ base + r .place = omega (arith, next) in
-        frame-shown (lawful (record { room = room })) (base + place) t (drop place s) (verdict-is (sym (ap (λ (p : Report). p .number) is)) refl)
-        ∙ ap₂ (λ m (l : List ℕ). listed room m (withFrame t (q .channels) (q .size)) l) sum (drop-drop (q .consumed) place s ∙ ap (λ n. drop n s) (sym next))
-        ∙ ap₂ (λ a c. listed room (base + r .place) (withFrame t a c) (drop (r .place) s)) (sym (ap (λ (p : Report). p .channels) is)) (sym (ap (λ (p : Report). p .size) is))
+        frame-shown (lawful (record { given = set; room = room })) (base + place) t (drop place s) (verdict-is (sym (ap (λ (p : Report). p .number) is)) refl)
+        ∙ ap₂ (λ m (l : List ℕ). listedAs set room m (withFrame t (q .channels) (q .size)) l) sum (drop-drop (q .consumed) place s ∙ ap (λ n. drop n s) (sym next))
+        ∙ ap₂ (λ a c. listedAs set room (base + r .place) (withFrame t a c) (drop (r .place) s)) (sym (ap (λ (p : Report). p .channels) is)) (sym (ap (λ (p : Report). p .size) is))
 
     pub step-refused : {x : Refusal} → r .answer ≡ ReadAnswer.Refused x
-        → listed room (base + place) t (drop place s) ≡ record { place = base + place; totals = t; number = numberOf x }
+        → listedAs set room (base + place) t (drop place s) ≡ record { place = base + place; totals = t; number = numberOf x }
     unfolding refusal
     step-refused {x} e =
         let is = ap (λ (p : Report). p .number) (ap reportOf (sym e) ∙ step-report) in
-        other-shown (lawful (record { room = room })) (base + place) t (drop place s)
+        other-shown (lawful (record { given = set; room = room })) (base + place) t (drop place s)
         (λ k. let z = accept-zero (one (drop place s) .report .number) k in omega (arith, some-number x, is))
         ∙ ap (λ m. record { place = base + place; totals = t; number = m }) (sym is)

@@ -6,6 +6,7 @@ use mathlib.Core.List.{List, [], _++_}
 use lib.ListN.{length, take, drop}
 use Rattle.error.specs.declared.Refusal.{Refusal}
 use Rattle.error.specs.Numbers.{numberOf}
+use Rattle.rfc9639.specs.declared.StreamBlock.{StreamBlock}
 use Rattle.frame_list.specs.declared.window.Rest.{Rest}
 use Rattle.frame_list.specs.declared.Totals.{Totals}
 use Rattle.frame_list.specs.declared.Card.{Card}
@@ -18,6 +19,10 @@ use Rattle.frame_list.specs.Listing.{Listing, listed}
 pub record Sound (card : Card) (room : ℕ) : Type 0 where
   pub held-fits : card .held ≤ room
   pub numbered : card .base + room < 2 ^ 64
+
+-- before the card's first frame
+abbrev pub noFrames : Totals
+noFrames = record { frames = 0; samples = 0; block = StreamBlock.Unknown }
 
 -- 1 if there may be more of the card to read
 abbrev pub pending : Rest → ℕ
@@ -108,6 +113,6 @@ Turns room was card (Turn.Over last) left = Stops room was card last
 pub record Runs (room : ℕ) (last : Last) (width : ℕ) : Type 0 where
   pub seen : List ℕ
   pub long : length seen ≡ last .card .base + last .card .held
-  pub accounts : Accounts room 0 (record { frames = 0; samples = 0 }) seen last (last .how)
+  pub accounts : Accounts room 0 (noFrames) seen last (last .how)
   pub sound : Sound (last .card) width
   pub place-fits : last .place ≤ last .card .held

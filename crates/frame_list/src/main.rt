@@ -11,7 +11,8 @@
 //
 // The card may have any length: it is read through a window that is refilled. A refusal that more bytes may change is
 // reported only at the end of the card; any other is reported at once. The window makes no difference, which is proved:
-// the run lists what the definition's answers to all of the card's bytes list (`Runs`).
+// the run lists what the definition's answers to all of the card's bytes list (`Runs`). The size of the stream's blocks
+// is that of the card's first.
 mod line;
 mod report;
 mod stream;
@@ -21,13 +22,15 @@ use error::Need;
 use error::Refusal;
 use frame::ReadAnswer;
 use libc::STDIN_FILENO;
+use rfc9639::Settings;
+use rfc9639::StreamBlock;
 use stream::Opening;
 use window::Rest;
 ghost use Prim.Native.Nat.{_+_, _^_, _<_, _≤_};
 ghost use mathlib.Core.Path.{_≡_};
 ghost use lib.ListN.{length};
 ghost use Rattle.frame_list.specs.declared.window.Rest.{Rest as RestOf};
-ghost use Rattle.frame_list.specs.Listing.{capped, Lists};
+ghost use Rattle.frame_list.specs.Listing.{capped, blockFor, Lists};
 ghost use Rattle.frame_list.specs.CardProgress.{Sound, Stays, Refills, Turns, Runs};
 
 // How many bytes of the card are in memory at a time. Eight channels of 65,535 verbatim samples of 24 bits take at most
@@ -37,10 +40,12 @@ pub const WINDOW: usize = 2097152;
 // Room for eight channels of 65,535 samples, which no frame exceeds.
 const ROOM: usize = 524280;
 
-// How many frames there were, and how many samples they had.
+// What the frames so far told: how many there were, how many samples they had, and the size of the stream's blocks,
+// which the first of them gives.
 pub struct Totals {
     pub frames: u64,
     pub samples: u64,
+    pub block: StreamBlock,
 }
 
 // How far the card has been read: the place on the card of the window's first byte, how many bytes the window holds,
@@ -99,15 +104,34 @@ fn sum(a: u64, b: u64) -> u64
     if b <= u64::MAX - a { a + b } else { u64::MAX }
 }
 
+// The size of the stream's blocks: once it is known it stays; before, these bytes are the first of the card.
+fn stream_block(bytes: &[u8], known: StreamBlock) -> StreamBlock
+    ensures { λ r. ⌜ r ≡ blockFor known (now (bytes .entry)) ⌝ }
+{
+    match known {
+        StreamBlock::Known(_) => known,
+        StreamBlock::Unknown => {
+            let set = walk::stream_settings(bytes);
+            set.block
+        }
+    }
+}
+
 // Lists the frames that are complete within the bytes. The first byte is at `base` on the card.
 fn list_frames(bytes: &[u8], base: u64, before: Totals, samples: &mut [i32]) -> Listed
     requires { ⌜ base + length (now bytes) < 2 ^ 64 ⌝ }
     ensures { λ r. ⌜ Lists (now (bytes .entry)) base before (length (now (samples .entry))) r ⌝ }
 {
+    let known = before.block;
+    let block = stream_block(bytes, known);
     let mut place = 0;
-    let mut totals = before;
+    let mut totals = Totals {
+        frames: before.frames,
+        samples: before.samples,
+        block,
+    };
     loop {
-        let step = walk::read_next(bytes, place, samples);
+        let step = walk::read_next(bytes, place, Settings { block }, samples);
         let answer = step.answer;
         match answer {
             ReadAnswer::Frame(f) => {
@@ -115,6 +139,7 @@ fn list_frames(bytes: &[u8], base: u64, before: Totals, samples: &mut [i32]) -> 
                 totals = Totals {
                     frames: sum(totals.frames, 1),
                     samples: sum(totals.samples, (f.channels * f.size) as u64),
+                    block,
                 };
                 place = step.place;
             }
@@ -258,6 +283,7 @@ fn read_card(fd: i32, window: &mut [u8], samples: &mut [i32]) -> Last
         totals: Totals {
             frames: 0,
             samples: 0,
+            block: StreamBlock::Unknown,
         },
     };
     loop {

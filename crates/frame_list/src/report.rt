@@ -9,14 +9,27 @@ use crate::stream::Opening;
 use error::Need;
 use error::Refusal;
 use frame::Accepted;
+use rfc9639::FirstSample;
+use rfc9639::StreamBlock;
 ghost use Rattle.io.specs.Counts.{Counts};
+
+// The number of a frame's first sample. On a card that starts with its first frame it is always known.
+fn put_first(line: &mut [u8; LINE], start: usize, first: FirstSample) -> usize
+    ensures { λ r. ⌜ Counts r (now (line .exit)) ⌝ }
+{
+    match first {
+        FirstSample::Known(number) => put_field(line, start, b", first sample ", number),
+        FirstSample::Unknown => put(line, start, b", first sample unknown"),
+    }
+}
 
 // Writes a frame's line; `at` is its place on the card.
 pub fn frame_line(at: u64, f: Accepted) {
     let mut line = [0u8; LINE];
     let n = put_field(&mut line, 0, b"frame at byte ", at);
     let n = put_field(&mut line, n, b", length ", f.consumed as u64);
-    let n = put_field(&mut line, n, b", first sample ", f.first);
+    let first = f.first;
+    let n = put_first(&mut line, n, first);
     let n = put_field(&mut line, n, b", channels ", f.channels as u64);
     let n = put_field(&mut line, n, b", bits ", f.bits as u64);
     let n = put_field(&mut line, n, b", block size ", f.size as u64);
@@ -151,6 +164,7 @@ fn put_nothing(line: &mut [u8; LINE]) -> usize
         Totals {
             frames: 0,
             samples: 0,
+            block: StreamBlock::Unknown,
         },
     )
 }

@@ -1,27 +1,38 @@
 -- `frames::list_frames` meets its contract: each step takes a byte and keeps the list the same. Assumes nothing.
 use Prim.Native.Nat.{ℕ, _+_, _-_, _*_, _≤_, _<_}
 use native.Mathlib.Omega.{arith}
-use mathlib.Core.Path.{_≡_, ap, ap₂, sym, _∙_}
+use mathlib.Core.Path.{_≡_, refl, ap, ap₂, sym, _∙_}
 use borrow.Author.Needs.{needs}
 use lib.ListN.{length, drop}
 use Rattle.walk.proofs.NextPlace.{left-length, frame-moves-place, place-in-input, frame-samples-fit}
-use Rattle.frame_list.specs.Listing.{listed}
+use Rattle.rfc9639.specs.declared.Settings.{Settings}
+use Rattle.rfc9639.specs.declared.StreamBlock.{StreamBlock}
+use Rattle.frame_list.specs.Listing.{withFrame, listedAs}
+use Rattle.frame_list.specs.declared.Totals.{Totals}
 use Rattle.frame_list.proofs.ListedFrames.{step-frame, step-refused}
 use Rattle.frame_list.proofs.list_frames.Statement.{statement}
 use Rattle.frame_list.proofs.list_frames.Tie as tie
 
+-- the totals at the first frame
+abbrev starting : Totals → StreamBlock → Totals
+starting t block = record { frames = t .frames; samples = t .samples; block = block }
+
 abbrev Inv-loop : tie.InvT-loop
-Inv-loop bytes base samples₀ place₀ totals₀ samples place totals =
-    (place ≤ length bytes) × (length samples ≡ length samples₀)
-    × (listed (length samples₀) (base + place) totals (drop place bytes) ≡ listed (length samples₀) base totals₀ bytes)
+Inv-loop bytes base samples₀ block place₀ totals₀ samples place totals =
+    (place ≤ length bytes) × (length samples ≡ length samples₀) × (totals .block ≡ block)
+    × (listedAs (record { block = block }) (length samples₀) (base + place) totals (drop place bytes) ≡ listedAs (record { block = block }) (length samples₀) base totals₀ bytes)
 
 abbrev μ-loop : tie.MeasureT-loop
-μ-loop bytes base samples₀ place₀ totals₀ samples place totals = length bytes - place
+μ-loop bytes base samples₀ block place₀ totals₀ samples place totals = length bytes - place
+
+stream-block-requires : tie.Need-stream-block-requires Inv-loop μ-loop
+stream-block-requires c κs = search needs
 
 loop-holds : tie.Need-loop-holds Inv-loop μ-loop
 loop-holds c =
-    let a = c .before in
-    (omega arith, search needs, ap (λ n. listed (length (a .args .samples .now)) n (a .args .before) (a .args .bytes .now)) (let z : a .args .base + 0 ≡ a .args .base = omega arith in z))
+    let a = c .before .before in
+    let here : a .args .base + 0 ≡ a .args .base = omega arith in
+    (omega arith, search needs, refl, ap (λ n. listedAs (record { block = c .stream-block .result }) (length (a .args .samples .now)) n (starting (a .args .before) (c .stream-block .result)) (a .args .bytes .now)) here)
 
 read-next-requires : tie.Need-read-next-requires Inv-loop μ-loop
 read-next-requires c κs = search needs
@@ -42,8 +53,9 @@ mul-sum : tie.Need-mul-sum Inv-loop μ-loop
 mul-sum c =
     let d = c .before .before .before .before .before .before .before in
     let l = d .before .before in
-    let a = l .before .before in
-    omega (arith, frame-samples-fit (a .args .bytes .now) (l .loop .place) (l .loop .samples) (d .read-next .ensures) (c .before .before .before .before .answer .given .1), a .good .1 .1 .1 .0)
+    let a = l .before .before .before in
+    let set : Settings = record { block = l .before .stream-block .result } in
+    omega (arith, frame-samples-fit (a .args .bytes .now) (l .loop .place) set (l .loop .samples) (d .read-next .ensures) (c .before .before .before .before .answer .given .1), a .good .1 .1 .1 .0)
 
 sum-requires-2 : tie.Need-sum-requires-2 Inv-loop μ-loop
 sum-requires-2 c κs = search needs
@@ -52,15 +64,17 @@ loop-less : tie.Need-loop-less Inv-loop μ-loop
 loop-less c =
     let d = c .before .before .before .before .before .before .before .before in
     let l = d .before .before in
-    let a = l .before .before in
-    omega (arith, frame-moves-place (a .args .bytes .now) (l .loop .place) (l .loop .samples) (d .read-next .ensures) (c .before .before .before .before .before .answer .given .1), place-in-input (a .args .bytes .now) (l .loop .place) (l .loop .samples) (d .read-next .ensures) (c .before .before .before .before .before .answer .given .1))
+    let a = l .before .before .before in
+    let set : Settings = record { block = l .before .stream-block .result } in
+    omega (arith, frame-moves-place (a .args .bytes .now) (l .loop .place) set (l .loop .samples) (d .read-next .ensures) (c .before .before .before .before .before .answer .given .1), place-in-input (a .args .bytes .now) (l .loop .place) set (l .loop .samples) (d .read-next .ensures) (c .before .before .before .before .before .answer .given .1))
 
 loop-again : tie.Need-loop-again Inv-loop μ-loop
 loop-again c =
     let d = c .before .before .before .before .before .before .before .before in
     let l = d .before .before in
-    let a = l .before .before in
-    (place-in-input (a .args .bytes .now) (l .loop .place) (l .loop .samples) (d .read-next .ensures) (c .before .before .before .before .before .answer .given .1), left-length (a .args .bytes .now) (l .loop .place) (l .loop .samples) (d .read-next .ensures) ∙ l .loop .inv .1, ap₂ (λ f n. listed (length (a .args .samples .now)) (a .args .base + d .read-next .result .place) (record { frames = f; samples = n }) (drop (d .read-next .result .place) (a .args .bytes .now))) (c .before .before .sum .ensures) (c .sum2 .ensures) ∙ sym (step-frame (a .args .bytes .now) (length (a .args .samples .now)) (a .args .base) (l .loop .place) (l .loop .inv .1) (d .read-next .ensures) (l .loop .totals) (c .before .before .before .before .before .answer .given .1)) ∙ l .loop .inv .2)
+    let a = l .before .before .before in
+    let set : Settings = record { block = l .before .stream-block .result } in
+    (place-in-input (a .args .bytes .now) (l .loop .place) set (l .loop .samples) (d .read-next .ensures) (c .before .before .before .before .before .answer .given .1), left-length (a .args .bytes .now) (l .loop .place) set (l .loop .samples) (d .read-next .ensures) ∙ l .loop .inv .1, refl, ap₂ (λ f n. listedAs set (length (a .args .samples .now)) (a .args .base + d .read-next .result .place) (record { frames = f; samples = n; block = set .block }) (drop (d .read-next .result .place) (a .args .bytes .now))) (c .before .before .sum .ensures) (c .sum2 .ensures) ∙ ap (λ (b : StreamBlock). listedAs set (length (a .args .samples .now)) (a .args .base + d .read-next .result .place) (starting (withFrame (l .loop .totals) (c .before .before .before .before .before .answer .given .0 .0 .channels) (c .before .before .before .before .before .answer .given .0 .0 .size)) b) (drop (d .read-next .result .place) (a .args .bytes .now))) (sym (l .loop .inv .2)) ∙ sym (step-frame (a .args .bytes .now) set (length (a .args .samples .now)) (a .args .base) (l .loop .place) (l .loop .inv .1) (d .read-next .ensures) (l .loop .totals) (c .before .before .before .before .before .answer .given .1)) ∙ l .loop .inv .3)
 
 enum-known-answer-2 : tie.Need-enum-known-answer-2 Inv-loop μ-loop
 enum-known-answer-2 c = search needs
@@ -69,15 +83,18 @@ same-length : tie.Need-same-length Inv-loop μ-loop
 same-length c =
     let d = c .before .before .before .before in
     let l = d .before .before in
-    let a = l .before .before in
-    left-length (a .args .bytes .now) (l .loop .place) (l .loop .samples) (d .read-next .ensures) ∙ l .loop .inv .1
+    let a = l .before .before .before in
+    let set : Settings = record { block = l .before .stream-block .result } in
+    left-length (a .args .bytes .now) (l .loop .place) set (l .loop .samples) (d .read-next .ensures) ∙ l .loop .inv .1
 
 returns : tie.Need-returns Inv-loop μ-loop
 returns c =
     let d = c .before .before .before .before in
     let l = d .before .before in
-    let a = l .before .before in
-    record { place-fits = l .loop .inv .0; all = sym (l .loop .inv .2) ∙ step-refused (a .args .bytes .now) (length (a .args .samples .now)) (a .args .base) (l .loop .place) (l .loop .inv .1) (d .read-next .ensures) (l .loop .totals) (c .before .answer2 .given .1) }
+    let a = l .before .before .before in
+    let set : Settings = record { block = l .before .stream-block .result } in
+    let settled-first = ap (λ (b : StreamBlock). listedAs (record { block = b }) (length (a .args .samples .now)) (a .args .base) (starting (a .args .before) b) (a .args .bytes .now)) (sym (l .before .stream-block .ensures)) in
+    record { place-fits = l .loop .inv .0; all = settled-first ∙ sym (l .loop .inv .3) ∙ step-refused (a .args .bytes .now) set (length (a .args .samples .now)) (a .args .base) (l .loop .place) (l .loop .inv .1) (d .read-next .ensures) (l .loop .totals) (c .before .answer2 .given .1) }
 
 pub list-frames-spec : {M : Type 1} → statement M
 list-frames-spec =
@@ -85,6 +102,7 @@ list-frames-spec =
     (tie.spec
     Inv-loop
     μ-loop
+    stream-block-requires
     loop-holds
     read-next-requires
     enum-known-answer
