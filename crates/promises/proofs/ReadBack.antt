@@ -1,5 +1,6 @@
--- READ-BACK, for the code: `read_frame` gets the samples back from what `write_frame` wrote. Assumes nothing.
-use Prim.Native.Nat.{ℕ, _≤_}
+-- READ-BACK, for the code: `read_frame` gets the samples back from what `write_frame` wrote, under the settings that the
+-- frame is readable under. Assumes nothing.
+use Prim.Native.Nat.{ℕ, _≤_, _<_}
 use native.Mathlib.Omega.{arith}
 use mathlib.Core.Path.{_≡_, refl, ap, sym, _∙_}
 use mathlib.Core.Bool.{Bool, true, false, cond}
@@ -8,13 +9,18 @@ use lib.Dec.{leb}
 use lib.IntN.{ℤ}
 use lib.ListN.{length, take, drop}
 use lib.Seq.{take-append-seam}
+use Rattle.error.specs.declared.Refusal.the-variants.{BadShape}
 use Rattle.rfc9639.specs.declared.FrameSetting.{FrameSetting}
+use Rattle.rfc9639.specs.declared.Settings.{Settings}
+use Rattle.rfc9639.specs.declared.StreamBlock.{StreamBlock}
 use Rattle.rfc9639.specs.HeaderCodes.{assignment, channelCount}
+use Rattle.rfc9639.specs.Stream.{possible}
 use Rattle.rfc9639.specs.Read.{Outcome, read}
 use Rattle.rfc9639.specs.Write.{frameBytes, frameBound, allowed, allFit, Written, unwritten, write}
 use Rattle.rfc9639.proofs.LengthBound.{within-bound}
 use Rattle.readback.specs.FirstSample.{firstOf}
-use Rattle.readback.proofs.ReadBack.{writtenReport, read-back}
+use Rattle.readback.specs.Readable.{readable}
+use Rattle.readback.proofs.ReadBack.{writtenReport, read-back, smaller-refused}
 use Rattle.frame.specs.declared.ReadAnswer.{ReadAnswer}
 use Rattle.frame.proofs.Outcome.{report-tells}
 use Rattle.frame_writer.specs.declared.WriteAnswer.{WriteAnswer}
@@ -59,13 +65,27 @@ module _ {set : FrameSetting} {xs : List ℤ} {out : List ℕ} {n : ℕ} {left :
   pub written-within-bound : n ≤ frameBound set
   written-within-bound = omega (arith, w .long, within-bound set xs)
 
-  -- whatever bytes follow the frame, and in any buffer with room for the samples
-  pub written-reads-back : (rest : List ℕ) (b : List ℤ) → length xs ≤ length b → {r : ReadAnswer} {kept : List ℤ} → ReadFrame (take n left ++ rest) b r kept
-      → (r ≡ ReadAnswer.Frame (record { consumed = n; first = firstOf set; channels = channelCount (assignment (set .channels)); bits = set .bits; size = set .size }))
-      × (kept ≡ xs ++ drop (length xs) b)
-  written-reads-back rest b room {r} p =
-      let back =
-      ap (λ (x : List ℕ). read (x ++ rest) b) frame-first ∙ read-back set xs (w .ok) (w .fit) rest b room in (
-        report-tells r _ (reads p .report ∙ ap (λ (x : Outcome). x .report) back ∙ ap (λ m. writtenReport set m (firstOf set)) (sym (w .long))),
-        reads p .samples ∙ ap (λ (x : Outcome). x .buffer) back,
-      )
+  -- What `read_frame` does with the frame, whatever bytes follow it.
+  module _ (given : Settings) (rest : List ℕ) (b : List ℤ) where
+    read-is : read given (take n left ++ rest) b ≡ read given (frameBytes set xs ++ rest) b
+    read-is = ap (λ (x : List ℕ). read given (x ++ rest) b) frame-first
+
+    -- Under settings that it is readable under, in any buffer with room for the samples.
+    pub written-reads-back : readable given set ≡ true → length xs ≤ length b → {r : ReadAnswer} {kept : List ℤ} → ReadFrame given (take n left ++ rest) b r kept
+        → (r ≡ ReadAnswer.Frame (record { consumed = n; first = firstOf (given .block) set; channels = channelCount (assignment (set .channels)); bits = set .bits; size = set .size }))
+        × (kept ≡ xs ++ drop (length xs) b)
+    written-reads-back can room {r} p =
+        let back = read-is ∙ read-back given set xs can (w .ok) (w .fit) rest b room in (
+          report-tells r _ (reads p .report ∙ ap (λ (x : Outcome). x .report) back ∙ ap (λ m. writtenReport set m (firstOf (given .block) set)) (sym (w .long))),
+          reads p .samples ∙ ap (λ (x : Outcome). x .buffer) back,
+        )
+
+    -- With fixed blocking, a size given for the stream's blocks that is below the frame's is refused, in any buffer.
+    pub smaller-size-refused : possible given ≡ true → set .blocking ≡ 0 → {size : ℕ} → given .block ≡ StreamBlock.Known size → size < set .size
+        → {r : ReadAnswer} {kept : List ℤ} → ReadFrame given (take n left ++ rest) b r kept
+        → (r ≡ ReadAnswer.Refused BadShape) × (kept ≡ b)
+    smaller-size-refused can fixed known less {r} p =
+        let back = read-is ∙ smaller-refused given set xs can fixed known less (w .ok) rest b in (
+          report-tells r (ReadAnswer.Refused BadShape) (reads p .report ∙ ap (λ (x : Outcome). x .report) back),
+          reads p .samples ∙ ap (λ (x : Outcome). x .buffer) back,
+        )

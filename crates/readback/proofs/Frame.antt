@@ -1,7 +1,8 @@
 -- The frame is read back (RFC 9639 section 9). Assumes nothing.
 use Prim.Native.Nat.{ℕ, _≤_}
 use native.Mathlib.Omega.{arith}
-use mathlib.Core.Path.{refl, ap, sym}
+use mathlib.Core.Path.{_≡_, refl, ap, sym}
+use mathlib.Core.Bool.{true}
 use mathlib.Core.List.{List, [], _++_, append-assoc, flatMap}
 use borrow.Author.Tests.{lt-ltb, le-leb, eq-eqb}
 use lib.IntN.{ℤ}
@@ -13,6 +14,7 @@ use Rattle.reading.proofs.Postconditions.{Every}
 use Rattle.reading.proofs.NumbersAsBits.{bitsOf-zero}
 use Rattle.rfc9639.specs.declared.FrameSetting.{FrameSetting}
 use Rattle.rfc9639.specs.declared.Lane.{Lane}
+use Rattle.rfc9639.specs.declared.Settings.{Settings}
 use Rattle.rfc9639.specs.CheckSums.{crc16}
 use Rattle.rfc9639.specs.HeaderCodes.{assignment}
 use Rattle.rfc9639.specs.Header.{sampleCount}
@@ -22,9 +24,11 @@ use Rattle.rfc9639.specs.Write.{headerBits, lanes, laneWidth, stored, laneBits,
 use Rattle.rfc9639.proofs.Widths.{Fits}
 use Rattle.rfc9639.proofs.CheckSums.{crc16-below}
 use Rattle.rfc9639.proofs.Lists.{width-within, widths-lanes}
+use Rattle.readback.specs.Readable.{readable}
 use Rattle.readback.proofs.SpelledValues.{Spells, spells-as, spells-value, spells-by, spells-bits, spells-passed, spells-done, spells-bind, spells-then, spells-last, spells-require, spells-checked, spells-each}
 use Rattle.rfc9639.proofs.AllowedSettings.{Allowed}
 use Rattle.readback.proofs.Header.{headerOf, spells-header}
+use Rattle.readback.proofs.StreamBlock.{readable-possible, readable-fits}
 use Rattle.readback.proofs.Subframe.{spells-subframe}
 use Rattle.readback.proofs.Lanes.{Held, lanes-held, leftAndRight-lanes}
 
@@ -71,12 +75,17 @@ module _ (set : FrameSetting) (xs : List ℤ) (ok : Allowed set (length xs)) (fi
       spells-bind _ spells-subframes
       (spells-last _ spells-footer (spells-value (leftAndRight-lanes (set .size) xs some (ok .depth .most) fit (assignment (set .channels)) (ok .samples)) spells-done))
 
-  spells-opening : (room : ℕ) → length xs ≤ room → Spells [] (opening (record { room = room })) (headerBits set) (headerOf set)
-  unfolding opening sampleCount
-  spells-opening room h =
-      spells-last _ (spells-header set ok)
-      (spells-checked 8 _ (lt-ltb 0 (set .bits) some) (spells-checked 7 _ (le-leb _ room (omega (arith, ok .samples))) spells-done))
+  -- under settings that the frame is readable under, with room for its samples
+  module _ (given : Settings) (can : readable given set ≡ true) (room : ℕ) (h : length xs ≤ room) where
+    spells-opening : Spells [] (opening (record { given = given; room = room })) (headerBits set) (headerOf set)
+    unfolding opening sampleCount
+    spells-opening =
+        spells-checked 11 _ (readable-possible given set can)
+        (spells-last _ (spells-header set ok)
+        (spells-checked 8 _ (lt-ltb 0 (set .bits) some)
+        (spells-checked 9 _ (readable-fits given set can)
+        (spells-checked 7 _ (le-leb _ room (omega (arith, ok .samples))) spells-done))))
 
-  pub spells-frame : (room : ℕ) → length xs ≤ room → Spells [] (frame (record { room = room })) (frameBits set xs) (record { header = headerOf set; samples = xs })
-  unfolding frame frameBits footed paddedToByte
-  spells-frame room h = spells-as (simp append-assoc) (spells-bind _ (spells-opening room h) (spells-last _ spells-body spells-done))
+    pub spells-frame : Spells [] (frame (record { given = given; room = room })) (frameBits set xs) (record { header = headerOf set; samples = xs })
+    unfolding frame frameBits footed paddedToByte
+    spells-frame = spells-as (simp append-assoc) (spells-bind _ spells-opening (spells-last _ spells-body spells-done))

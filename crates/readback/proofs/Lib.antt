@@ -2,6 +2,7 @@
 pub mod SpelledValues
 pub mod Number
 pub mod Header
+pub mod StreamBlock
 pub mod SamplesAndResiduals
 pub mod Prediction
 pub mod Subframe

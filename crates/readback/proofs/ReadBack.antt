@@ -1,70 +1,42 @@
--- READ-BACK: what the definition writes it reads back, whatever follows and in any buffer with room. Assumes nothing.
-use Prim.Native.Nat.{ℕ, _+_, _*_, _≤_}
+-- READ-BACK: what the definition writes it reads back, whatever follows, in any buffer with room and under any settings
+-- that the frame is readable under. Under fixed blocking, a size given below the frame's is refused. Assumes nothing.
+use Prim.Native.Nat.{ℕ, _+_, _≤_, _<_}
 use native.Mathlib.Omega.{arith}
-use mathlib.Core.Path.{_≡_, refl, ap, sym, _∙_}
-use mathlib.Core.Bool.{Bool, true, false, cond}
-use mathlib.Core.List.{List, [], _++_}
-use lib.Dec.{eqb}
+use mathlib.Core.Path.{_≡_, ap, sym, _∙_}
+use mathlib.Core.Bool.{true}
+use mathlib.Core.List.{List, [], _++_, append-assoc, append-nil}
 use lib.IntN.{ℤ}
 use lib.ListN.{length, drop}
 use Rattle.reading.specs.declared.Place.{Place}
-use Rattle.reading.specs.Readers.{run}
+use Rattle.reading.specs.Readers.{Ask, run}
 use Rattle.reading.specs.Bytes.{bitsOfBytes}
 use Rattle.reading.specs.Places.{placeOf, gotAt, toAt, runAt}
 use Rattle.reading.proofs.ByteRuns.{place-is, start-in, runAt-in}
 use Rattle.reading.proofs.BytePrefixes.{bitsOfBytes-append}
+use Rattle.rfc9639.specs.declared.FirstSample.{FirstSample}
 use Rattle.rfc9639.specs.declared.FrameSetting.{FrameSetting}
-use Rattle.rfc9639.specs.declared.BlockTime.the-variants.{FrameNumber, SampleNumber}
-use Rattle.rfc9639.specs.declared.FrameHeader.{FrameHeader}
+use Rattle.rfc9639.specs.declared.Settings.{Settings}
+use Rattle.rfc9639.specs.declared.StreamBlock.{StreamBlock}
 use Rattle.rfc9639.specs.HeaderCodes.{assignment, channelCount}
-use Rattle.rfc9639.specs.Header.{timeOf, firstSample}
-use Rattle.rfc9639.specs.Frame.{Frame, frame}
-use Rattle.rfc9639.specs.Read.{Report, accepted, read}
-use Rattle.rfc9639.specs.Write.{frameBits, frameBytes, allowed, allFit}
+use Rattle.rfc9639.specs.Header.{header}
+use Rattle.rfc9639.specs.Stream.{possible}
+use Rattle.rfc9639.specs.Frame.{ReaderSettings, Frame, frame}
+use Rattle.rfc9639.specs.Read.{Report, refusal, accepted, Result, untouched, result, read}
+use Rattle.rfc9639.specs.Write.{headerBits, subframesBits, paddedToByte, footed, frameBits, frameBytes, allowed, allFit}
 use Rattle.rfc9639.proofs.FrameBits.{length-frameBits, bits-of-frame}
-use Rattle.demands.proofs.Results.{frame-result}
-use Rattle.readback.specs.FirstSample.{firstOf}
-use Rattle.readback.proofs.SpelledValues.{Spells}
 use Rattle.rfc9639.proofs.AllowedSettings.{allowed-facts}
+use Rattle.demands.proofs.Results.{frame-result}
+use Rattle.demands.proofs.ResultCases.{larger-block}
+use Rattle.readback.specs.FirstSample.{firstOf}
+use Rattle.readback.specs.Readable.{readable}
+use Rattle.readback.proofs.SpelledValues.{Spells}
 use Rattle.readback.proofs.SamplesAndResiduals.{all-fit-facts}
-use Rattle.readback.proofs.Header.{headerOf}
+use Rattle.readback.proofs.Header.{headerOf, spells-header}
+use Rattle.readback.proofs.StreamBlock.{first-is, smaller-unfit}
 use Rattle.readback.proofs.Frame.{spells-frame}
 
-first-is : (set : FrameSetting) → firstSample (headerOf set) ≡ firstOf set
-unfolding firstSample firstOf timeOf
-first-is set = go (eqb (set .blocking) 0)
-  where
-    timed : Bool → FrameHeader
-    timed b = record {
-      time = cond b (FrameNumber (set .number)) (SampleNumber (set .number));
-      size = set .size;
-      channels = assignment (set .channels);
-      bits = set .bits;
-    }
-
-    go : (b : Bool) → firstSample (timed b) ≡ cond b (set .size * set .number) (set .number)
-    go true = refl
-    go false = refl
-
-module _ (set : FrameSetting) (xs : List ℤ) (rest : List ℕ) (room : ℕ) where
-  abbrev writtenFrame : Frame
-  writtenFrame = record { header = headerOf set; samples = xs }
-
-  abbrev end : Place
-  end = record { byte = length (frameBytes set xs); bit = 0 }
-
-  -- bytes whose bits spell a frame are read as that frame
-  run-frame : Spells [] (frame (record { room = room })) (frameBits set xs) writtenFrame
-      → runAt (frame (record { room = room })) (frameBytes set xs ++ rest) (placeOf 0) ≡ gotAt writtenFrame end
-  unfolding toAt
-  run-frame s =
-      runAt-in (frame (record { room = room })) (start-in (frameBytes set xs ++ rest))
-      ∙ ap (λ t. toAt (run (frame (record { room = room })) t 0)) (bitsOfBytes-append (frameBytes set xs) rest ∙ ap (λ t. t ++ bitsOfBytes rest) (bits-of-frame set xs))
-      ∙ ap toAt (s .reads (bitsOfBytes rest))
-      ∙ ap (gotAt writtenFrame) (sym (place-is (length (frameBytes set xs)) 0 (0 + length (frameBits set xs)) (omega arith) (omega (arith, length-frameBits set xs))))
-
 -- the report on a written frame
-abbrev pub writtenReport : FrameSetting → ℕ → ℕ → Report
+abbrev pub writtenReport : FrameSetting → ℕ → FirstSample → Report
 writtenReport set consumed first = record {
   number = 0;
   consumed = consumed;
@@ -74,23 +46,72 @@ writtenReport set consumed first = record {
   size = set .size;
 }
 
-pub read-back : (set : FrameSetting) (xs : List ℤ) → allowed set (length xs) ≡ true → allFit (set .bits) xs ≡ true
-    → (rest : List ℕ) (buffer : List ℤ) → length xs ≤ length buffer
-    → read (frameBytes set xs ++ rest) buffer
-    ≡ record {
-      report = record {
-        number = 0;
-        consumed = length (frameBytes set xs);
-        first = firstOf set;
-        channels = channelCount (assignment (set .channels));
-        bits = set .bits;
-        size = set .size;
-      };
-      buffer = xs ++ drop (length xs) buffer;
-    }
-unfolding read accepted
-read-back set xs ok fit rest buffer room =
-    let spells = spells-frame set xs (allowed-facts set (length xs) ok) (all-fit-facts (set .bits) xs fit) (length buffer) room in
-    ap (λ r. record { report = r .report; buffer = r .front ++ drop (length (r .front)) buffer })
-    (frame-result (record { room = length buffer }) (frameBytes set xs ++ rest) (run-frame set xs rest (length buffer) spells))
-    ∙ ap (λ n. record { report = writtenReport set (length (frameBytes set xs)) n; buffer = xs ++ drop (length xs) buffer }) (first-is set)
+module _ (set : FrameSetting) (xs : List ℤ) (rest : List ℕ) where
+  -- a reader whose value the first of the frame's bits spell gets it from the frame's bytes
+  run-written : {A : Type 0} (p : Ask A) (bs more : List ℕ) {a : A} → frameBits set xs ≡ bs ++ more → Spells [] p bs a
+      → runAt p (frameBytes set xs ++ rest) (placeOf 0) ≡ gotAt a (placeOf (0 + length bs))
+  unfolding toAt
+  run-written p bs more starts s =
+      runAt-in p (start-in (frameBytes set xs ++ rest))
+      ∙ ap (λ t. toAt (run p t 0))
+      (bitsOfBytes-append (frameBytes set xs) rest ∙ ap (λ t. t ++ bitsOfBytes rest) (bits-of-frame set xs ∙ starts) ∙ append-assoc bs more (bitsOfBytes rest))
+      ∙ ap toAt (s .reads (more ++ bitsOfBytes rest))
+
+  abbrev writtenFrame : Frame
+  writtenFrame = record { header = headerOf set; samples = xs }
+
+  abbrev end : Place
+  end = record { byte = length (frameBytes set xs); bit = 0 }
+
+  run-frame : (reader : ReaderSettings) → Spells [] (frame reader) (frameBits set xs) writtenFrame
+      → runAt (frame reader) (frameBytes set xs ++ rest) (placeOf 0) ≡ gotAt writtenFrame end
+  run-frame reader s =
+      run-written (frame reader) (frameBits set xs) [] (sym (append-nil (frameBits set xs))) s
+      ∙ ap (gotAt writtenFrame) (sym (place-is (length (frameBytes set xs)) 0 (0 + length (frameBits set xs)) (omega arith) (omega (arith, length-frameBits set xs))))
+
+  -- the frame's bits start with those of its header
+  run-header : Spells [] header (headerBits set) (headerOf set)
+      → runAt header (frameBytes set xs ++ rest) (placeOf 0) ≡ gotAt (headerOf set) (placeOf (0 + length (headerBits set)))
+  unfolding frameBits footed paddedToByte
+  run-header s = run-written header (headerBits set) _ (append-assoc (headerBits set ++ subframesBits set xs) _ _ ∙ append-assoc (headerBits set) _ _) s
+
+-- the outcome, by the result
+read-by : (given : Settings) (s : List ℕ) (buffer : List ℤ) {r : Result} → result (record { given = given; room = length buffer }) s ≡ r
+    → read given s buffer ≡ record { report = r .report; buffer = r .front ++ drop (length (r .front)) buffer }
+unfolding read
+read-by given s buffer e = ap (λ (r : Result). record { report = r .report; buffer = r .front ++ drop (length (r .front)) buffer }) e
+
+module _ (given : Settings) (set : FrameSetting) (xs : List ℤ) where
+  pub read-back : readable given set ≡ true → allowed set (length xs) ≡ true → allFit (set .bits) xs ≡ true
+      → (rest : List ℕ) (buffer : List ℤ) → length xs ≤ length buffer
+      → read given (frameBytes set xs ++ rest) buffer
+      ≡ record {
+        report = record {
+          number = 0;
+          consumed = length (frameBytes set xs);
+          first = firstOf (given .block) set;
+          channels = channelCount (assignment (set .channels));
+          bits = set .bits;
+          size = set .size;
+        };
+        buffer = xs ++ drop (length xs) buffer;
+      }
+  unfolding accepted
+  read-back can ok fit rest buffer room =
+      let reader : ReaderSettings = record { given = given; room = length buffer } in
+      let s = frameBytes set xs ++ rest in
+      let spells = spells-frame set xs (allowed-facts set (length xs) ok) (all-fit-facts (set .bits) xs fit) given can (length buffer) room in
+      read-by given s buffer (frame-result reader s (run-frame set xs rest reader spells))
+      ∙ ap (λ n. record { report = writtenReport set (length (frameBytes set xs)) n; buffer = xs ++ drop (length xs) buffer }) (first-is (given .block) set)
+
+  -- whatever the samples are, and however much room there is
+  pub smaller-refused : possible given ≡ true → set .blocking ≡ 0 → {size : ℕ} → given .block ≡ StreamBlock.Known size → size < set .size
+      → allowed set (length xs) ≡ true → (rest : List ℕ) (buffer : List ℤ)
+      → read given (frameBytes set xs ++ rest) buffer ≡ record { report = refusal 9; buffer = buffer }
+  unfolding untouched
+  smaller-refused can fixed known less ok rest buffer =
+      let reader : ReaderSettings = record { given = given; room = length buffer } in
+      let s = frameBytes set xs ++ rest in
+      let facts = allowed-facts set (length xs) ok in
+      read-by given s buffer
+      (larger-block reader s can (run-header set xs rest (spells-header set facts)) (omega (arith, facts .depth .some)) (smaller-unfit given set fixed known less))

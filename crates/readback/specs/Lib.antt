@@ -1,2 +1,3 @@
--- What a written frame says about its samples.
+-- What a written frame says about its samples, and the settings under which it is read back.
 pub mod FirstSample
+pub mod Readable
