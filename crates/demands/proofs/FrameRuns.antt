@@ -99,17 +99,22 @@ module _ (set : ReaderSettings) (s : List ℕ) (at : Place) where
 
 -- ---- more room
 
--- Two readers that start with the same part, and go on alike wherever the first is not refused with this number.
-alike-after : {A B : Type 0} (n : ℕ) (p : Ask A) (k k′ : A → Ask B) (s : List ℕ) (at : Place)
-    → ((a : A) (q : Place) → runAt p s at ≡ gotAt a q → (runAt (k a) s q ≡ refusedAt n → ⊥) → runAt (k′ a) s q ≡ runAt (k a) s q)
-    → (runAt (p >>= k) s at ≡ refusedAt n → ⊥) → runAt (p >>= k′) s at ≡ runAt (p >>= k) s at
+-- two readers that start with the same part and go on alike
+pub alike-after : {A B : Type 0} (p : Ask A) (k k′ : A → Ask B) (s : List ℕ) (at : Place)
+    → ((a : A) (q : Place) → runAt p s at ≡ gotAt a q → runAt (k′ a) s q ≡ runAt (k a) s q) → runAt (p >>= k′) s at ≡ runAt (p >>= k) s at
 unfolding andThen
-alike-after {A} n p k k′ s at alike lacks = go (runAt p s at) refl
+alike-after {A} p k k′ s at alike = go (runAt p s at) refl
   where
     go : (x : At A) → runAt p s at ≡ x → runAt (p >>= k′) s at ≡ runAt (p >>= k) s at
-    go (gotAt a q) e = bind-got p s at k′ e ∙ alike a q e (λ r. lacks (bind-got p s at k e ∙ r)) ∙ sym (bind-got p s at k e)
+    go (gotAt a q) e = bind-got p s at k′ e ∙ alike a q e ∙ sym (bind-got p s at k e)
     go (refusedAt m) e = bind-is p s at k′ e ∙ sym (bind-is p s at k e)
     go shortAt e = bind-is p s at k′ e ∙ sym (bind-is p s at k e)
+
+-- the same, if they go on alike wherever the first is not refused with this number
+alike-unless : {A B : Type 0} (n : ℕ) (p : Ask A) (k k′ : A → Ask B) (s : List ℕ) (at : Place)
+    → ((a : A) (q : Place) → runAt p s at ≡ gotAt a q → (runAt (k a) s q ≡ refusedAt n → ⊥) → runAt (k′ a) s q ≡ runAt (k a) s q)
+    → (runAt (p >>= k) s at ≡ refusedAt n → ⊥) → runAt (p >>= k′) s at ≡ runAt (p >>= k) s at
+alike-unless n p k k′ s at alike lacks = alike-after p k k′ s at (λ a q e. alike a q e (λ r. lacks (bind-got p s at k e ∙ r)))
 
 module _ (given : Settings) (room room′ : ℕ) (more : room ≤ room′) (s : List ℕ) (at : Place) where
   abbrev small : ReaderSettings
@@ -122,10 +127,10 @@ module _ (given : Settings) (room room′ : ℕ) (more : room ≤ room′) (s : 
   pub opening-more : (runAt (opening small) s at ≡ refusedAt 7 → ⊥) → runAt (opening large) s at ≡ runAt (opening small) s at
   unfolding opening
   opening-more =
-      alike-after 7 (require (possible given) 11) _ _ s at
-      (λ _ p _. alike-after 7 header _ _ s p
-      (λ h q _. alike-after 7 (require (ltb 0 (h .bits)) 8) _ _ s q
-      (λ _ q _. alike-after 7 (require (blockFits (given .block) (h .time) (h .size)) 9) _ _ s q
+      alike-unless 7 (require (possible given) 11) _ _ s at
+      (λ _ p _. alike-unless 7 header _ _ s p
+      (λ h q _. alike-unless 7 (require (ltb 0 (h .bits)) 8) _ _ s q
+      (λ _ q _. alike-unless 7 (require (blockFits (given .block) (h .time) (h .size)) 9) _ _ s q
       (λ _ q e lacks. fit h q (stays-in _ s _ e) (leb (sampleCount h) room) refl lacks))))
     where
       fit : (h : FrameHeader) (p : Place) → In s p → (b : Bool) → leb (sampleCount h) room ≡ b

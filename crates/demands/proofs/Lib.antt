@@ -8,3 +8,4 @@ pub mod Demand3
 pub mod BufferTable
 pub mod ResultCases
 pub mod StreamSettings
+pub mod Document01
