@@ -158,7 +158,8 @@ def cards():
         yield f"{length} bytes", joined(frames), expected(frames)
         yield f"{length} bytes, the last one gone", joined(frames)[:-1], expected(frames[:-1], cut=True)
     for length in (32768, WINDOW, 3 * WINDOW):
-        frames = repeated(odd, length, rng)
+        # The first block has the size of those that follow, so that their first samples are those of card.bin.
+        frames = small[:1] + repeated(odd[1:] + odd[:1], length - len(small[0].data), rng)
         yield f"a frame after {length} bytes", joined(frames + small), expected(frames + small)
         yield f"a byte after {length} bytes", joined(frames, b"\xff"), expected(frames, b"\xff")
         yield f"garbage after {length} bytes", joined(frames, b"\x00\x01"), expected(frames, b"\x00\x01")
