@@ -1,18 +1,10 @@
 -- Any two outcomes that meet a public function's contract are equal. Assumes nothing.
 use mathlib.Core.Path.{refl}
 use Rattle.reading.proofs.Outcome.{OneOutcome, one-value}
-use Rattle.probe_records.proofs.report_bytes
-use Rattle.probe_records.proofs.first_or_zero
 use Rattle.probe_records.proofs.answer_bytes
 use Rattle.probe_records.proofs.sample_bytes
 use Rattle.probe_records.proofs.number_from_bytes
 use Rattle.probe_records.proofs.sample_from_bytes
-
-pub report-bytes-one : OneOutcome report_bytes.ended report_bytes.Reads.Learnt
-report-bytes-one κs args r r′ left left′ p q = (one-value p q, refl)
-
-pub first-or-zero-one : OneOutcome first_or_zero.ended first_or_zero.Reads.Learnt
-first-or-zero-one κs args r r′ left left′ p q = (one-value p q, refl)
 
 pub answer-bytes-one : OneOutcome answer_bytes.ended answer_bytes.Reads.Learnt
 answer-bytes-one κs args r r′ left left′ p q = (one-value p q, refl)

@@ -16,39 +16,6 @@ fn low_byte(v: u64) -> u8
     (v % 256) as u8
 }
 
-// The start of a frame's record: its first byte, the bytes consumed, the number of the first sample, the channels, the
-// bits and the block size.
-pub fn report_bytes(
-    kind: u8,
-    consumed: u64,
-    first: u64,
-    channels: u64,
-    bits: u64,
-    size: u64,
-) -> [u8; 17]
-    ensures { λ r. ⌜ r ≡ kind ∷ (little 4 consumed ++ (little 8 first ++ (little 1 channels ++ (little 1 bits ++ little 2 size)))) ⌝ }
-{
-    [
-        kind,
-        low_byte(consumed),
-        low_byte(consumed / 256),
-        low_byte(consumed / 256 / 256),
-        low_byte(consumed / 256 / 256 / 256),
-        low_byte(first),
-        low_byte(first / 256),
-        low_byte(first / 256 / 256),
-        low_byte(first / 256 / 256 / 256),
-        low_byte(first / 256 / 256 / 256 / 256),
-        low_byte(first / 256 / 256 / 256 / 256 / 256),
-        low_byte(first / 256 / 256 / 256 / 256 / 256 / 256),
-        low_byte(first / 256 / 256 / 256 / 256 / 256 / 256 / 256),
-        low_byte(channels),
-        low_byte(bits),
-        low_byte(size),
-        low_byte(size / 256),
-    ]
-}
-
 // Whether the number of a frame's first sample is known: 1, or 0.
 fn first_known(first: FirstSample) -> u64
     ensures { λ r. ⌜ r ≡ firstKnown first ⌝ }
@@ -60,7 +27,7 @@ fn first_known(first: FirstSample) -> u64
 }
 
 // The number of a frame's first sample, and 0 where it is unknown.
-pub fn first_or_zero(first: FirstSample) -> u64
+fn first_or_zero(first: FirstSample) -> u64
     ensures { λ r. ⌜ r ≡ firstOrZero first ⌝ }
 {
     match first {

@@ -10,19 +10,20 @@ use rfc9639::Settings;
 ghost use Prim.Native.Nat.{_*_, _≤_};
 ghost use lib.ListN.{length};
 
-// The first sample's number is known in every frame that is read: the first frame has a header, so its size is the
-// stream's. If it were unknown, its eight bytes would be zeros.
+// The record is that of the probe programs without the byte that says whether the first sample's number is known. Here
+// it always is: the first frame has a header, so its size is the stream's.
 fn write_report(f: Accepted) {
     let first = f.first;
-    let bytes = probe_records::report_bytes(
+    let bytes = probe_records::answer_bytes(
         1,
         f.consumed as u64,
-        probe_records::first_or_zero(first),
+        first,
         f.channels as u64,
         f.bits as u64,
         f.size as u64,
     );
-    io::write_all(STDOUT_FILENO, &bytes);
+    io::write_all(STDOUT_FILENO, &bytes[..5]);
+    io::write_all(STDOUT_FILENO, &bytes[6..]);
 }
 
 // Writes the first n samples at once: one write per sample would be slow.
