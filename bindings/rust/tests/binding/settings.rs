@@ -40,7 +40,7 @@ fn refused(refusal: Refusal) -> (Result<Values, Refusal>, [i32; 7]) {
 
 /// A frame of one channel that counts up from 1.
 fn written(blocking: Blocking, number: u64, size: usize) -> Vec<u8> {
-    let mut settings = WriteSettings::new(0, 16, size);
+    let mut settings = WriteSettings::new(0, 24, size);
     (settings.blocking, settings.number) = (blocking, number);
     let samples: Vec<i32> = (1..).take(size).collect();
     let mut out = vec![0; settings.longest()];
@@ -101,7 +101,7 @@ fn without_the_size_a_frame_number_places_nothing() {
     // With variable blocking the header has the first sample's own number.
     for number in [0, 5, (1 << 36) - 1] {
         let frame = written(Blocking::Variable, number, 2);
-        let answer = (Ok((frame.len(), Some(number), 1, 16, 2)), [1, 2, 7, 7, 7, 7, 7]);
+        let answer = (Ok((frame.len(), Some(number), 1, 24, 2)), [1, 2, 7, 7, 7, 7, 7]);
         for settings in [UNKNOWN, blocks_of(2), blocks_of(3), blocks_of(65535)] {
             assert_eq!(read(&frame, settings), answer, "{settings:?}");
         }
@@ -115,7 +115,7 @@ fn a_block_larger_than_the_streams_is_refused_with_fixed_blocking_alone() {
     }
     let variable = written(Blocking::Variable, 9, 3);
     for size in [1, 2] {
-        let answer = (Ok((variable.len(), Some(9), 1, 16, 3)), [1, 2, 3, 7, 7, 7, 7]);
+        let answer = (Ok((variable.len(), Some(9), 1, 24, 3)), [1, 2, 3, 7, 7, 7, 7]);
         assert_eq!(read(&variable, blocks_of(size)), answer);
     }
     let largest = written(Blocking::Fixed, 0, 65535);
@@ -208,7 +208,7 @@ fn a_larger_block_ends_the_frames() {
     let frames: Vec<Values> = [(0, 2), (2, 7), (9, 1)]
         .iter()
         .zip(&blocks)
-        .map(|(&(number, size), bytes)| (bytes.len(), Some(number), 1, 16, size))
+        .map(|(&(number, size), bytes)| (bytes.len(), Some(number), 1, 24, size))
         .collect();
     let stream = blocks.concat();
     assert_eq!(row(Frames::new(&stream)), (frames, Refusal::NothingLeft, stream.len()));
