@@ -1,4 +1,5 @@
--- DOCUMENT 01'S TABLE: what the samples buffer holds after each refusal, for every input and buffer. Assumes nothing.
+-- DOCUMENT 01'S TABLE: what the samples buffer holds after each refusal, for all settings, inputs and buffers. Assumes
+-- nothing.
 use Prim.Native.Nat.{ℕ}
 use native.Mathlib.Omega.{arith}
 use mathlib.Core.Logic.{_≢_, _⊎_, inl, inr}
@@ -14,6 +15,7 @@ use Rattle.reading.specs.Places.{placeOf, At, gotAt, refusedAt, shortAt, runAt}
 use Rattle.reading.proofs.ByteRuns.{bind-parts, bind-got, bind-refused, bind-short, stays-in, runAt-done}
 use Rattle.reading.proofs.Postconditions.{Meets, holds-at, Sized}
 use Rattle.rfc9639.specs.declared.FrameHeader.{FrameHeader}
+use Rattle.rfc9639.specs.declared.Settings.{Settings}
 use Rattle.rfc9639.specs.Header.{sampleCount}
 use Rattle.rfc9639.specs.Frame.{ReaderSettings, opening, body, Frame, frame}
 use Rattle.rfc9639.specs.Read.{refusal, accepted, Result, untouched, zeroed, begun, finished, resultOf, result, read}
@@ -21,7 +23,7 @@ use Rattle.demands.proofs.Headers.{Early, Late, forbidden, not-done, ba
 use Rattle.demands.proofs.Results.{cut-number}
 use Rattle.demands.proofs.FrameSamples.{HeaderInRoom, begun-holds, body-holds, Sample}
 
--- Refusals 1, 3, 5, 6 and 7 leave the buffer as it was; 10 leaves its first N samples zero; 2, 4, 8 and 9 do the one or
+-- Refusals 1, 3, 5, 6, 7 and 11 leave the buffer as it was; 10 leaves its first N samples zero; 2, 4, 8 and 9 do the one or
 -- the other, by whether the first subframe's first bit was read. N is the header's channels times its block size. The
 -- samples after the first N are never touched.
 
@@ -39,9 +41,9 @@ late-true not-done = refl
 late-true bad-shape = refl
 late-true frame-sum = refl
 
-module _ (s : List ℕ) (b : List ℤ) where
+module _ (given : Settings) (s : List ℕ) (b : List ℤ) where
   abbrev set : ReaderSettings
-  set = record { room = length b }
+  set = record { given = given; room = length b }
 
   -- this header was read, and then the first bit of the first subframe
   abbrev pub Begun : FrameHeader → Type 0
@@ -81,37 +83,37 @@ module _ (s : List ℕ) (b : List ℤ) where
   -- ---- facts that give the rows
 
   abbrev number : ℕ
-  number = read s b .report .number
+  number = read given s b .report .number
 
   -- the result, by its two runs
-  ran : {x : At FrameHeader} {y : At Frame} → runAt (begun set) s (placeOf 0) ≡ x → runAt (frame set) s (placeOf 0) ≡ y → result set s ≡ resultOf s x y
+  ran : {x : At FrameHeader} {y : At Frame} → runAt (begun set) s (placeOf 0) ≡ x → runAt (frame set) s (placeOf 0) ≡ y → result set s ≡ resultOf given s x y
   unfolding result
-  ran e f = ap₂ (resultOf s) e f
+  ran e f = ap₂ (resultOf given s) e f
 
   number-is : {r : Result} → result set s ≡ r → number ≡ r .report .number
   unfolding read
   number-is e = ap (λ (q : Result). q .report .number) e
 
-  buffer-is : {r : Result} → result set s ≡ r → read s b .buffer ≡ filled r
+  buffer-is : {r : Result} → result set s ≡ r → read given s b .buffer ≡ filled r
   unfolding read
   buffer-is e = ap filled e
 
   -- a refusal after the start clears the samples that the frame would fill
-  pub begun-clears : {h : FrameHeader} → number ≢ 0 → Begun h → read s b .buffer ≡ cleared h b
+  pub begun-clears : {h : FrameHeader} → number ≢ 0 → Begun h → read given s b .buffer ≡ cleared h b
   unfolding resultOf finished accepted
   begun-clears {h} some g = go (runAt (frame set) s (placeOf 0)) refl
     where
-      go : (y : At Frame) → runAt (frame set) s (placeOf 0) ≡ y → read s b .buffer ≡ cleared h b
+      go : (y : At Frame) → runAt (frame set) s (placeOf 0) ≡ y → read given s b .buffer ≡ cleared h b
       go (gotAt f end) e = absurd (some (number-is (ran (g .1) e)))
       go (refusedAt n) e = buffer-is (ran (g .1) e) ∙ filled-zeros n h
       go shortAt e = buffer-is (ran (g .1) e) ∙ filled-zeros 2 h
 
   -- a frame that has not begun leaves the buffer as it was
-  pub unbegun-keeps : NotBegun → read s b .buffer ≡ b
+  pub unbegun-keeps : NotBegun → read given s b .buffer ≡ b
   unfolding resultOf untouched
   unbegun-keeps none = go (runAt (begun set) s (placeOf 0)) refl
     where
-      go : (x : At FrameHeader) → runAt (begun set) s (placeOf 0) ≡ x → read s b .buffer ≡ b
+      go : (x : At FrameHeader) → runAt (begun set) s (placeOf 0) ≡ x → read given s b .buffer ≡ b
       go (gotAt h at) e = absurd (none h (at, e))
       go (refusedAt n) e = buffer-is (ran e refl)
       go shortAt e = buffer-is (ran e refl)
@@ -135,7 +137,7 @@ module _ (s : List ℕ) (b : List ℤ) where
       go (inr (inl z)) = cut (sym e ∙ z)
       go (inr (inr l)) = let y : late n ≡ true = late-true (subst Late e l) in let z : _≡_ {A = ℕ} 0 1 = cc in omega arith
 
-  keeps : {n : ℕ} → number ≡ n → n ≢ 0 → n ≢ 2 → late n ≡ false → read s b .buffer ≡ b
+  keeps : {n : ℕ} → number ≡ n → n ≢ 0 → n ≢ 2 → late n ≡ false → read given s b .buffer ≡ b
   keeps e some cut early = unbegun-keeps (not-begun e some cut early)
 
   -- the footer's refusal is given after they have begun
@@ -153,23 +155,24 @@ module _ (s : List ℕ) (b : List ℤ) where
 
   -- where the first subframe's first bit was read, the first N samples are zero; else the buffer is as it was
   pub record ByStart : Type 0 where
-    pub before : NotBegun → read s b .buffer ≡ b
-    pub after : (h : FrameHeader) → Begun h → read s b .buffer ≡ cleared h b
+    pub before : NotBegun → read given s b .buffer ≡ b
+    pub after : (h : FrameHeader) → Begun h → read given s b .buffer ≡ cleared h b
 
   by-start : number ≢ 0 → ByStart
   by-start some = record { before = unbegun-keeps; after = λ h g. begun-clears some g }
 
   pub record Table : Type 0 where
-    pub row-1 : number ≡ 1 → read s b .buffer ≡ b
+    pub row-1 : number ≡ 1 → read given s b .buffer ≡ b
     pub row-2 : number ≡ 2 → ByStart
-    pub row-3 : number ≡ 3 → read s b .buffer ≡ b
+    pub row-3 : number ≡ 3 → read given s b .buffer ≡ b
     pub row-4 : number ≡ 4 → ByStart
-    pub row-5 : number ≡ 5 → read s b .buffer ≡ b
-    pub row-6 : number ≡ 6 → read s b .buffer ≡ b
-    pub row-7 : number ≡ 7 → read s b .buffer ≡ b
+    pub row-5 : number ≡ 5 → read given s b .buffer ≡ b
+    pub row-6 : number ≡ 6 → read given s b .buffer ≡ b
+    pub row-7 : number ≡ 7 → read given s b .buffer ≡ b
     pub row-8 : number ≡ 8 → ByStart
     pub row-9 : number ≡ 9 → ByStart
-    pub row-10 : number ≡ 10 → (h : FrameHeader) × Begun h × (read s b .buffer ≡ cleared h b)
+    pub row-10 : number ≡ 10 → (h : FrameHeader) × Begun h × (read given s b .buffer ≡ cleared h b)
+    pub row-11 : number ≡ 11 → read given s b .buffer ≡ b
 
   pub table : Table
   table = record {
@@ -183,4 +186,5 @@ module _ (s : List ℕ) (b : List ℤ) where
     row-8 = λ e. by-start (λ z. omega arith);
     row-9 = λ e. by-start (λ z. omega arith);
     row-10 = λ e. let g = sum-begun e in (g .0, g .1, begun-clears (λ z. omega arith) (g .1));
+    row-11 = λ e. keeps e (λ z. omega arith) (λ z. omega arith) refl;
   }

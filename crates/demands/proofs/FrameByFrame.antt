@@ -1,6 +1,7 @@
 -- A whole input, frame by frame: the list of answers, one step at a time. Assumes nothing.
 use Prim.Native.Nat.{ℕ, zero, suc, _≤_, _<_}
 use native.Mathlib.Omega.{arith}
+use mathlib.Core.Bool.{Bool, true, false}
 use mathlib.Core.Logic.{_≢_}
 use mathlib.Core.Path.{_≡_, refl, ap, sym, _∙_, subst}
 use mathlib.Core.List.{List, [], _∷_, _++_}
@@ -9,15 +10,18 @@ use Rattle.reading.specs.declared.Place.{Place}
 use Rattle.reading.specs.Readers.{bitsFrom, reply, follow, run, _>>=_, bits}
 use Rattle.reading.specs.Bytes.{bitsOfBytes}
 use Rattle.reading.specs.Places.{placeOf, At, gotAt, refusedAt, shortAt, runAt, inside, toAt}
+use Rattle.reading.proofs.ByteRuns.{bind-refused, bind-short}
 use Rattle.reading.proofs.Postconditions.{Meets, holds-at}
 use Rattle.rfc9639.specs.declared.FrameHeader.{FrameHeader}
 use Rattle.rfc9639.specs.Header.{sync, codes, header}
+use Rattle.rfc9639.specs.Stream.{possible}
 use Rattle.rfc9639.specs.Frame.{ReaderSettings, opening, Frame, frame}
 use Rattle.rfc9639.specs.Read.{Result, refusal, accepted, untouched, zeroed, cutShort, begun, finished, resultOf, result}
 use Rattle.rfc9639.specs.FrameByFrame.{Verdict, accept, undecided, refuse, verdictOf, verdict, goesOn, answersUpTo, answers}
 use Rattle.demands.proofs.Headers.{Listed, Early}
 use Rattle.demands.proofs.FrameSamples.{HeaderInRoom, FrameInRoom, begun-holds, frame-holds}
 use Rattle.demands.proofs.Results
+use Rattle.demands.proofs.ResultCases as cases
 
 -- ---- verdicts and numbers
 
@@ -92,10 +96,23 @@ module _ {one : List ℕ → Result} (law : Lawful one) where
 
 -- ---- the definition's reading obeys these laws
 
+pub no-header : runAt header [] (placeOf 0) ≡ shortAt
+unfolding header codes sync bits _>>=_ runAt inside toAt run follow reply bitsFrom bitsOfBytes
+no-header = refl
+
 module _ (set : ReaderSettings) where
-  pub nothing-left : result set [] .report .number ≡ 1
-  unfolding result begun opening header codes sync bits _>>=_ runAt inside toAt run follow reply bitsFrom bitsOfBytes resultOf untouched refusal cutShort
-  nothing-left = refl
+  pub nothing-left : possible (set .given) ≡ true → result set [] .report .number ≡ 1
+  unfolding untouched refusal cutShort
+  nothing-left ok = ap (λ (r : Result). r .report .number) (cases.header-short set [] ok no-header)
+
+  -- a frame is accepted only under settings that a stream can have
+  pub accepted-possible : (s : List ℕ) → result set s .report .number ≡ 0 → possible (set .given) ≡ true
+  unfolding untouched refusal
+  accepted-possible s z = go (possible (set .given)) refl
+    where
+      go : (b : Bool) → possible (set .given) ≡ b → possible (set .given) ≡ true
+      go true e = e
+      go false e = absurd (omega (arith, ap (λ (r : Result). r .report .number) (cases.impossible set s e)))
 
   -- An accepted frame has at least one byte: its consumed bytes alone are a frame, and an empty input is none.
   pub some-byte : (s : List ℕ) → result set s .report .number ≡ 0 → 0 < result set s .report .consumed
@@ -105,7 +122,7 @@ module _ (set : ReaderSettings) where
       go zero e =
           absurd
           (let same = sym (ap (λ n. result set (take n s)) e) ∙ Results.suffice set s z in
-          let one = nothing-left in
+          let one = nothing-left (accepted-possible s z) in
           omega (arith, ap (λ (r : Result). r .report .number) same))
       go (suc n) e = omega arith
 
@@ -122,16 +139,26 @@ module _ (set : ReaderSettings) where
   unfolding result resultOf finished untouched zeroed refusal accepted
   bare s = go (runAt (begun set) s (placeOf 0)) (runAt (frame set) s (placeOf 0))
     where
-      go : (x : At FrameHeader) (y : At Frame) → resultOf s x y .report .number ≢ 0 → resultOf s x y .report .consumed ≡ 0
+      go : (x : At FrameHeader) (y : At Frame) → resultOf (set .given) s x y .report .number ≢ 0 → resultOf (set .given) s x y .report .consumed ≡ 0
       go (gotAt h p) (gotAt f end) n = absurd (n refl)
       go (gotAt h p) (refusedAt m) n = refl
       go (gotAt h p) shortAt n = refl
       go (refusedAt m) y n = refl
       go shortAt y n = refl
 
-  not-begun : runAt (begun set) [] (placeOf 0) ≡ shortAt
-  unfolding begun opening header codes sync bits _>>=_ runAt inside toAt run follow reply bitsFrom bitsOfBytes
-  not-begun = refl
+  not-begun : {h : FrameHeader} {p : Place} → runAt (begun set) [] (placeOf 0) ≡ gotAt h p → ⊥
+  unfolding begun
+  not-begun e = go (possible (set .given)) refl
+    where
+      go : (b : Bool) → possible (set .given) ≡ b → ⊥
+      go true ok =
+          let f = sym (bind-short (opening set) [] (placeOf 0) _ (cases.opening-short set [] ok no-header)) ∙ e in
+          let z : _≡_ {A = ℕ} 0 1 = cc in
+          omega arith
+      go false bad =
+          let f = sym (bind-refused (opening set) [] (placeOf 0) _ (cases.not-opened set [] bad)) ∙ e in
+          let z : _≡_ {A = ℕ} 0 1 = cc in
+          omega arith
 
   -- cut short is 1 for an empty input, else 2
   pub cut : (s : List ℕ) → 1 ≤ result set s .report .number → result set s .report .number ≤ 2 → result set s .report .number ≡ cutShort s
@@ -139,11 +166,11 @@ module _ (set : ReaderSettings) where
   cut s = go (runAt (begun set) s (placeOf 0)) refl (runAt (frame set) s (placeOf 0)) refl
     where
       begun-some : (s : List ℕ) {h : FrameHeader} {p : Place} → runAt (begun set) s (placeOf 0) ≡ gotAt h p → 2 ≡ cutShort s
-      begun-some [] e = absurd (let f = not-begun in let z : _≡_ {A = ℕ} 0 1 = cc in omega arith)
+      begun-some [] e = absurd (not-begun e)
       begun-some (b ∷ s) e = refl
 
       go : (x : At FrameHeader) → runAt (begun set) s (placeOf 0) ≡ x → (y : At Frame) → runAt (frame set) s (placeOf 0) ≡ y
-          → 1 ≤ resultOf s x y .report .number → resultOf s x y .report .number ≤ 2 → resultOf s x y .report .number ≡ cutShort s
+          → 1 ≤ resultOf (set .given) s x y .report .number → resultOf (set .given) s x y .report .number ≤ 2 → resultOf (set .given) s x y .report .number ≡ cutShort s
       go (gotAt h p) e (gotAt f end) g a b = absurd (omega arith)
       go (gotAt h p) e (refusedAt n) g a b = absurd (omega (arith, subst (Meets Listed (FrameInRoom set)) g (holds-at Listed (FrameInRoom set) s (placeOf 0) (frame-holds set))))
       go (gotAt h p) e shortAt g a b = begun-some s e
@@ -162,7 +189,7 @@ module _ (set : ReaderSettings) where
   counted = record {
     suffice = λ s e. Results.suffice set s (accept-zero (result set s .report .number) e);
     fewer = λ s e. elim [
-      | zero ↦ λ l. verdict-is nothing-left refl
+      | zero ↦ λ l. verdict-is (nothing-left (accepted-possible s (accept-zero (result set s .report .number) e))) refl
       | suc m ↦ λ l. verdict-is (Results.fewer set s (accept-zero (result set s .report .number) e) (suc m) (omega arith) l) refl
     ];
   }

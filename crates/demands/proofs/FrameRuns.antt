@@ -18,9 +18,11 @@ use Rattle.reading.proofs.BytePrefixes.{passed-at, passed-length}
 use Rattle.rfc9639.specs.declared.ChannelAssignment.{ChannelAssignment}
 use Rattle.rfc9639.specs.declared.ChannelAssignment.the-variants.{Independent, LeftSide, SideRight, MidSide}
 use Rattle.rfc9639.specs.declared.FrameHeader.{FrameHeader}
+use Rattle.rfc9639.specs.declared.Settings.{Settings}
 use Rattle.rfc9639.specs.HeaderCodes.{channelCount}
 use Rattle.rfc9639.specs.Header.{header, sampleCount}
 use Rattle.rfc9639.specs.Subframe.{subframeHeader, subframe}
+use Rattle.rfc9639.specs.Stream.{possible, blockFits}
 use Rattle.rfc9639.specs.Frame.{ReaderSettings, opening, widths, padding, footer, body, Frame, frame}
 use Rattle.rfc9639.specs.Stereo.{leftAndRight}
 use Rattle.rfc9639.specs.Read.{begun}
@@ -97,40 +99,38 @@ module _ (set : ReaderSettings) (s : List ℕ) (at : Place) where
 
 -- ---- more room
 
-module _ (room room′ : ℕ) (more : room ≤ room′) (s : List ℕ) (at : Place) where
+-- Two readers that start with the same part, and go on alike wherever the first is not refused with this number.
+alike-after : {A B : Type 0} (n : ℕ) (p : Ask A) (k k′ : A → Ask B) (s : List ℕ) (at : Place)
+    → ((a : A) (q : Place) → runAt p s at ≡ gotAt a q → (runAt (k a) s q ≡ refusedAt n → ⊥) → runAt (k′ a) s q ≡ runAt (k a) s q)
+    → (runAt (p >>= k) s at ≡ refusedAt n → ⊥) → runAt (p >>= k′) s at ≡ runAt (p >>= k) s at
+unfolding andThen
+alike-after {A} n p k k′ s at alike lacks = go (runAt p s at) refl
+  where
+    go : (x : At A) → runAt p s at ≡ x → runAt (p >>= k′) s at ≡ runAt (p >>= k) s at
+    go (gotAt a q) e = bind-got p s at k′ e ∙ alike a q e (λ r. lacks (bind-got p s at k e ∙ r)) ∙ sym (bind-got p s at k e)
+    go (refusedAt m) e = bind-is p s at k′ e ∙ sym (bind-is p s at k e)
+    go shortAt e = bind-is p s at k′ e ∙ sym (bind-is p s at k e)
+
+module _ (given : Settings) (room room′ : ℕ) (more : room ≤ room′) (s : List ℕ) (at : Place) where
   abbrev small : ReaderSettings
-  small = record { room = room }
+  small = record { given = given; room = room }
 
   abbrev large : ReaderSettings
-  large = record { room = room′ }
+  large = record { given = given; room = room′ }
 
   -- where the smaller room is enough, the larger gives the same header
   pub opening-more : (runAt (opening small) s at ≡ refusedAt 7 → ⊥) → runAt (opening large) s at ≡ runAt (opening small) s at
-  unfolding opening andThen
-  opening-more lacks = go (runAt header s at) refl
+  unfolding opening
+  opening-more =
+      alike-after 7 (require (possible given) 11) _ _ s at
+      (λ _ p _. alike-after 7 header _ _ s p
+      (λ h q _. alike-after 7 (require (ltb 0 (h .bits)) 8) _ _ s q
+      (λ _ q _. alike-after 7 (require (blockFits (given .block) (h .time) (h .size)) 9) _ _ s q
+      (λ _ q e lacks. fit h q (stays-in _ s _ e) (leb (sampleCount h) room) refl lacks))))
     where
-      roomy : (h : FrameHeader) → Ask FrameHeader
-      roomy h = require (leb (sampleCount h) room) 7 >>= (λ _. done h)
-
-      roomier : (h : FrameHeader) → Ask FrameHeader
-      roomier h = require (leb (sampleCount h) room′) 7 >>= (λ _. done h)
-
-      fit : (h : FrameHeader) (p : Place) → In s p → (runAt (roomy h) s p ≡ refusedAt 7 → ⊥) → (b : Bool) → leb (sampleCount h) room ≡ b
-          → runAt (roomier h) s p ≡ runAt (roomy h) s p
-      fit h p i l true e =
+      fit : (h : FrameHeader) (p : Place) → In s p → (b : Bool) → leb (sampleCount h) room ≡ b
+          → (runAt (require (leb (sampleCount h) room) 7 >>= (λ _. done h)) s p ≡ refusedAt 7 → ⊥)
+          → runAt (require (leb (sampleCount h) room′) 7 >>= (λ _. done h)) s p ≡ runAt (require (leb (sampleCount h) room) 7 >>= (λ _. done h)) s p
+      fit h p i true e lacks =
           require-holds 7 _ i (le-leb _ _ (le-trans (leb-true (sampleCount h) room e) more)) ∙ sym (require-holds 7 _ i e)
-      fit h p i l false e = absurd (l (require-fails 7 _ i e))
-
-      deep : (h : FrameHeader) (p : Place) → runAt header s at ≡ gotAt h p → (b : Bool) → ltb 0 (h .bits) ≡ b → runAt (opening large) s at ≡ runAt (opening small) s at
-      deep h p e true d =
-          let i = stays-in header s at e in
-          let to = bind-got header s at _ e ∙ require-holds 8 (λ _. roomy h) i d in
-          bind-got header s at _ e ∙ require-holds 8 (λ _. roomier h) i d ∙ fit h p i (λ q. lacks (to ∙ q)) (leb (sampleCount h) room) refl ∙ sym to
-      deep h p e false d =
-          let i = stays-in header s at e in
-          bind-got header s at _ e ∙ require-fails 8 (λ _. roomier h) i d ∙ sym (bind-got header s at _ e ∙ require-fails 8 (λ _. roomy h) i d)
-
-      go : (x : At FrameHeader) → runAt header s at ≡ x → runAt (opening large) s at ≡ runAt (opening small) s at
-      go (gotAt h p) e = deep h p e (ltb 0 (h .bits)) refl
-      go (refusedAt n) e = bind-is header s at _ e ∙ sym (bind-is header s at _ e)
-      go shortAt e = bind-is header s at _ e ∙ sym (bind-is header s at _ e)
+      fit h p i false e lacks = absurd (lacks (require-fails 7 _ i e))

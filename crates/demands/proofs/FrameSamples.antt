@@ -2,6 +2,7 @@
 use Prim.Native.Nat.{ℕ, zero, suc, _+_, _-_, _*_, _/_, _%_, _^_, _≤_}
 use native.Mathlib.Nat.{div-add-mod', add-comm, mul-comm, zero-mul, suc-mul}
 use native.Mathlib.Omega.{arith}
+use mathlib.Core.Bool.{true}
 use mathlib.Core.Path.{_≡_, refl, ap, ap₂, sym, _∙_}
 use mathlib.Core.List.{List, [], _∷_, _++_, map, reverse}
 use borrow.Author.Tests.{ltb-true, leb-true, eqb-true}
@@ -23,6 +24,7 @@ use Rattle.rfc9639.specs.Residual.{rice, escaped, codedResiduals, partition, pa
 use Rattle.rfc9639.specs.Prediction.{restored, predict}
 use Rattle.rfc9639.specs.Subframe.{subframeType, wastedBits, checkedWastedBits, kindAndWasted, subframeHeader, orderOf, fixed, quantization, lpcAfterShift, lpc, samplesByType, subframeAfterHeader, subframe}
 use Rattle.rfc9639.specs.Stereo.{rightOf, leftOf, doubled, leftOfMid, rightOfMid, pairwise, leftAndRight}
+use Rattle.rfc9639.specs.Stream.{possible, blockFits}
 use Rattle.rfc9639.specs.Frame.{ReaderSettings, opening, widths, footer, body, Frame, frame}
 use Rattle.rfc9639.specs.Read.{begun}
 use Rattle.rfc9639.proofs.Widths.{Fits, wrapped-fits, shiftDown-fits, shiftUp-fits}
@@ -252,15 +254,18 @@ body-holds h =
 pub record HeaderInRoom (set : ReaderSettings) (h : FrameHeader) : Type 0 where
   pub sound : Sound h
   pub depth : 1 ≤ h .bits
+  pub block : blockFits (set .given .block) (h .time) (h .size) ≡ true
   pub room : sampleCount h ≤ set .room
 
 pub opening-holds : (set : ReaderSettings) → Holds Early (HeaderInRoom set) (opening set)
 unfolding opening
 opening-holds set =
-    holds-bind _ header-holds
+    holds-bind _ (holds-require (possible (set .given)) 11 (omega arith))
+    (λ _ _. holds-bind _ header-holds
     (λ h s. holds-bind _ (holds-require (ltb 0 (h .bits)) 8 (omega arith))
-    (λ _ d. holds-bind _ (holds-require (leb (sampleCount h) (set .room)) 7 (omega arith))
-    (λ _ r. value (record { sound = s; depth = ltb-true 0 (h .bits) d; room = leb-true (sampleCount h) (set .room) r }))))
+    (λ _ d. holds-bind _ (holds-require (blockFits (set .given .block) (h .time) (h .size)) 9 (omega arith))
+    (λ _ f. holds-bind _ (holds-require (leb (sampleCount h) (set .room)) 7 (omega arith))
+    (λ _ r. value (record { sound = s; depth = ltb-true 0 (h .bits) d; block = f; room = leb-true (sampleCount h) (set .room) r }))))))
 
 pub record FrameInRoom (set : ReaderSettings) (f : Frame) : Type 0 where
   pub header : HeaderInRoom set (f .header)

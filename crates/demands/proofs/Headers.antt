@@ -1,29 +1,30 @@
 -- Headers: what holds of every header that the definition reads, and which refusals it has. Assumes nothing.
 use Prim.Native.Nat.{ℕ, zero, suc, _+_, _*_, _%_, _^_, _≤_, _<_}
-use native.Mathlib.Nat.{pow-suc, mul-assoc, mul-comm, mul-le-mul, lt-of-lt-of-le, lt-of-le-of-lt, mul-le-mul-right, mul-one}
+use native.Mathlib.Nat.{pow-suc, mul-assoc, mul-comm, lt-of-lt-of-le, mul-le-mul-right, mul-one}
 use native.Mathlib.Omega.{arith}
 use mathlib.Core.Path.{_≡_, refl}
-use mathlib.Core.Bool.{Bool, true, false, _||_}
+use mathlib.Core.Bool.{Bool, true, false}
 use borrow.Author.Tests.{ltb-true, leb-true, eqb-true}
 use lib.Dec.{leb, ltb, eqb}
 use lib.Pow.{pow-mono, pow-pos}
-use Rattle.reading.specs.Readers.{bits}
+use Rattle.reading.specs.Readers.{bits, if_then_else_}
 use Rattle.reading.proofs.Postconditions.{Holds, value, refusal, holds-bind, holds-weaken, holds-bits, holds-passed, holds-require, holds-if}
 use Rattle.rfc9639.specs.declared.BlockTime.{BlockTime}
+use Rattle.rfc9639.specs.declared.BlockTime.the-variants.{FrameNumber, SampleNumber}
 use Rattle.rfc9639.specs.declared.Codes.{Codes}
 use Rattle.rfc9639.specs.declared.FrameHeader.{FrameHeader}
 use Rattle.rfc9639.specs.Number.{withFollowers, numberFrom, codedNumber}
 use Rattle.rfc9639.specs.HeaderCodes.{bitDepth, blockSize, rateBits, channelCount}
-use Rattle.rfc9639.specs.Header.{timeOf, sync, sizeAndRate, depthAndZero, channelsAndBits, codes, blockTime, headerSum, headerAfterCodes, header, firstSample}
+use Rattle.rfc9639.specs.Header.{timeOf, sync, sizeAndRate, depthAndZero, channelsAndBits, codes, blockTime, headerSum, headerAfterCodes, header}
 use Rattle.rfc9639.proofs.Lists.{channels-between}
 
--- the refusals of document 01 that a frame can have
+-- the refusals that a frame can have
 abbrev pub Listed : ℕ → Type 0
-Listed n = (3 ≤ n) × (n ≤ 10)
+Listed n = (3 ≤ n) × (n ≤ 11)
 
--- those of the header and of the checks right after it
+-- those of the settings, of the header and of the checks right after it: all but the footer's
 abbrev pub Early : ℕ → Type 0
-Early n = (3 ≤ n) × (n ≤ 8)
+Early n = (3 ≤ n) × (n ≤ 11) × (n ≡ 10 → ⊥)
 
 -- those of the subframes and the footer
 pub data Late : ℕ → Type 0 where
@@ -69,13 +70,26 @@ number-holds =
 
 -- ---- the header
 
+-- the number in a header: the frame's own, or that of its first sample
+unfoldable pub numberIn : BlockTime → ℕ
+numberIn (FrameNumber n) = n
+numberIn (SampleNumber n) = n
+
+numberIn-time : (blocking n : ℕ) → numberIn (timeOf blocking n) ≡ n
+unfolding timeOf numberIn
+numberIn-time blocking n = go (eqb blocking 0)
+  where
+    go : (b : Bool) → numberIn (if b then FrameNumber n else SampleNumber n) ≡ n
+    go true = refl
+    go false = refl
+
 pub record Sound (h : FrameHeader) : Type 0 where
   pub some : 1 ≤ h .size
   pub size : h .size ≤ 65535
   pub mono : 1 ≤ channelCount (h .channels)
   pub channels : channelCount (h .channels) ≤ 8
   pub bits : h .bits ≤ 24
-  pub first : firstSample h < 2 ^ 47
+  pub number : numberIn (h .time) < 2 ^ 36
 
 pub depth-holds : (code : ℕ) → Holds Early (λ d. d ≤ 24) (bitDepth code)
 unfolding bitDepth
@@ -99,23 +113,6 @@ size-holds code h =
     (λ _. holds-bind _ (holds-bits 16)
     (λ v _. holds-bind _ (holds-require (ltb v 65535) 4 (omega arith)) (λ _ e. value {a = v + 1} (omega (arith, ltb-true v 65535 e)))))
     (λ _. value {a = 2 ^ code} (omega (arith, pow-mono {i = code} {j = 15} (omega arith), pow-pos code))))))
-
-or-false : (a b : Bool) → (a || b) ≡ true → a ≡ false → b ≡ true
-or-false true b e f = absurd (let z : _≡_ {A = ℕ} 0 1 = cc in omega arith)
-or-false false b e f = e
-
--- a first sample: a frame number below 2 ^ 31 times the block size, or a sample number below 2 ^ 36
-first-below : (blocking n : ℕ) (h : FrameHeader) → h .time ≡ timeOf blocking n → blocking < 2 → h .size ≤ 65535 → n < 2 ^ 36
-    → (eqb blocking 1 || leb n 2147483647) ≡ true → firstSample h < 2 ^ 47
-unfolding firstSample timeOf
-first-below blocking n h t l s k e = go (eqb blocking 0) refl
-  where
-    go : (b : Bool) → eqb blocking 0 ≡ b → firstSample h < 2 ^ 47
-    go true f =
-        let zero-is = eqb-true blocking 0 f in
-        let few : n ≤ 2147483647 = leb-true n 2147483647 (or-false (eqb blocking 1) (leb n 2147483647) e (rw zero-is)) in
-        rw (t, f) (lt-of-le-of-lt (mul-le-mul {n₂ = 65535} {m₂ = 2147483647} s few) (omega arith))
-    go false f = rw (t, f) (omega arith)
 
 sync-holds : Holds Early (λ b. b < 2) sync
 unfolding sync
@@ -158,16 +155,11 @@ codes-holds =
     (λ c small. holds-bind _ channelsAndBits-holds
     (λ d k. value (record { blocking = two; size = small; mono = k .0; channels = k .1; bits = k .2 }))))
 
--- a block time that keeps the first sample below 2 ^ 47 in any header whose block size is in range
-Timely : BlockTime → Type 0
-Timely time = (h : FrameHeader) → h .time ≡ time → h .size ≤ 65535 → firstSample h < 2 ^ 47
-
-time-holds : (blocking : ℕ) → blocking < 2 → Holds Early Timely (blockTime blocking)
-unfolding blockTime Timely
-time-holds blocking l =
+time-holds : (blocking : ℕ) → Holds Early (λ time. numberIn time < 2 ^ 36) (blockTime blocking)
+unfolding blockTime
+time-holds blocking =
     holds-bind _ number-holds
-    (λ number below. holds-bind _ (holds-require (eqb blocking 1 || leb number 2147483647) 5 (omega arith))
-    (λ _ limit. value (λ h t s. first-below blocking number h t l s below limit)))
+    (λ number below. holds-bind _ (holds-require _ 5 (omega arith)) (λ _ _. value (rw (numberIn-time blocking number) below)))
 
 sum-holds : Holds Early (λ _. Unit {0}) headerSum
 unfolding headerSum
@@ -175,11 +167,11 @@ sum-holds =
     holds-bind _ holds-passed (λ before _. holds-bind _ (holds-bits 8) (λ sum _. holds-weaken (λ _ _. tt) (holds-require _ 6 (omega arith))))
 
 pub header-holds : Holds Early Sound header
-unfolding header headerAfterCodes Timely
+unfolding header headerAfterCodes
 header-holds =
     holds-bind _ codes-holds
-    (λ c k. holds-bind _ (time-holds (c .blocking) (k .blocking))
-    (λ time timely. holds-bind _ (size-holds (c .size) (k .size))
+    (λ c k. holds-bind _ (time-holds (c .blocking))
+    (λ time below. holds-bind _ (size-holds (c .size) (k .size))
     (λ size fits. holds-bind _ (holds-bits (rateBits (c .rate)))
     (λ rate _. holds-bind _ sum-holds
     (λ _ _. value
@@ -189,5 +181,5 @@ header-holds =
       mono = k .mono;
       channels = k .channels;
       bits = k .bits;
-      first = timely _ refl (fits .1);
+      number = below;
     }))))))

@@ -7,3 +7,4 @@ pub mod FrameByFrame
 pub mod Demand3
 pub mod BufferTable
 pub mod ResultCases
+pub mod StreamSettings

@@ -1,79 +1,116 @@
 -- The definition's result by cases: by the header, the first subframe's first bit and the body. Assumes nothing.
 use Prim.Native.Nat.{ℕ, _≤_, _<_}
 use mathlib.Core.Path.{_≡_, ap, ap₂, _∙_}
+use mathlib.Core.Bool.{true, false}
 use mathlib.Core.List.{List}
 use borrow.Author.Tests.{lt-ltb, le-ltb, le-leb, lt-leb}
+use lib.Dec.{leb, ltb}
 use lib.IntN.{ℤ}
 use Rattle.reading.specs.declared.Place.{Place}
 use Rattle.reading.specs.Readers.{Ask, done, _>>=_, bits, require}
 use Rattle.reading.specs.Places.{placeOf, gotAt, refusedAt, shortAt, runAt}
-use Rattle.reading.proofs.ByteRuns.{stays-in, bind-got, bind-refused, bind-short, require-holds, require-fails, runAt-done}
+use Rattle.reading.proofs.ByteRuns.{In, start-in, stays-in, bind-got, bind-refused, bind-short, require-holds, require-fails, runAt-done}
 use Rattle.rfc9639.specs.declared.FrameHeader.{FrameHeader}
 use Rattle.rfc9639.specs.Header.{header, sampleCount}
+use Rattle.rfc9639.specs.Stream.{possible, blockFits}
 use Rattle.rfc9639.specs.Frame.{ReaderSettings, opening, body, frame}
 use Rattle.rfc9639.specs.Read.{accepted, untouched, zeroed, cutShort, begun, finished, resultOf, result}
 
 module _ (set : ReaderSettings) (s : List ℕ) where
-  -- a header that was refused
+  -- the result where the frame was not opened
   shut : (n : ℕ) → runAt (opening set) s (placeOf 0) ≡ refusedAt n → result set s ≡ untouched n
   unfolding result resultOf begun
-  shut n e = ap (λ x. resultOf s x (runAt (frame set) s (placeOf 0))) (bind-refused (opening set) s (placeOf 0) _ e)
+  shut n e = ap (λ x. resultOf (set .given) s x (runAt (frame set) s (placeOf 0))) (bind-refused (opening set) s (placeOf 0) _ e)
 
-  pub header-refused : (n : ℕ) → runAt header s (placeOf 0) ≡ refusedAt n → result set s ≡ untouched n
+  pub not-opened : possible (set .given) ≡ false → runAt (opening set) s (placeOf 0) ≡ refusedAt 11
   unfolding opening
-  header-refused n e = shut n (bind-refused header s (placeOf 0) _ e)
+  not-opened e = require-fails 11 _ (start-in s) e
 
-  pub header-short : runAt header s (placeOf 0) ≡ shortAt → result set s ≡ untouched (cutShort s)
-  unfolding result resultOf begun opening
-  header-short e =
-      ap (λ x. resultOf s x (runAt (frame set) s (placeOf 0))) (bind-short (opening set) s (placeOf 0) _ (bind-short header s (placeOf 0) _ e))
+  pub impossible : possible (set .given) ≡ false → result set s ≡ untouched 11
+  impossible e = shut 11 (not-opened e)
 
-  module _ {h : FrameHeader} {p : Place} (e : runAt header s (placeOf 0) ≡ gotAt h p) where
-    roomed : FrameHeader → Ask FrameHeader
-    unfolding opening
-    roomed g = require (lib.Dec.leb (sampleCount g) (set .room)) 7 >>= (λ _. done g)
+  module _ (ok : possible (set .given) ≡ true) where
+    -- the checks after the header, in their order
+    afterBlock : FrameHeader → Ask FrameHeader
+    afterBlock h = require (leb (sampleCount h) (set .room)) 7 >>= (λ _. done h)
 
-    pub no-bits : h .bits ≤ 0 → result set s ≡ untouched 8
-    unfolding opening
-    no-bits none = shut 8 (bind-got header s (placeOf 0) _ e ∙ require-fails 8 _ (stays-in header s (placeOf 0) e) (le-ltb 0 (h .bits) none))
+    afterBits : FrameHeader → Ask FrameHeader
+    afterBits h = require (blockFits (set .given .block) (h .time) (h .size)) 9 >>= (λ _. afterBlock h)
 
-    module _ (some : 0 < h .bits) where
-      judged : runAt (opening set) s (placeOf 0) ≡ runAt (roomed h) s p
-      unfolding opening roomed
-      judged = bind-got header s (placeOf 0) _ e ∙ require-holds 8 _ (stays-in header s (placeOf 0) e) (lt-ltb 0 (h .bits) some)
+    afterHeader : FrameHeader → Ask FrameHeader
+    afterHeader h = require (ltb 0 (h .bits)) 8 >>= (λ _. afterBits h)
 
-      pub no-room : set .room < sampleCount h → result set s ≡ untouched 7
-      unfolding roomed
-      no-room less = shut 7 (judged ∙ require-fails 7 _ (stays-in header s (placeOf 0) e) (lt-leb (sampleCount h) (set .room) less))
+    header-next : runAt (opening set) s (placeOf 0) ≡ runAt (header >>= afterHeader) s (placeOf 0)
+    unfolding opening afterHeader afterBits afterBlock
+    header-next = require-holds 11 _ (start-in s) ok
 
-      module _ (fits : sampleCount h ≤ set .room) where
-        opened : runAt (opening set) s (placeOf 0) ≡ gotAt h p
-        unfolding roomed
-        opened =
-            let i = stays-in header s (placeOf 0) e in
-            judged ∙ require-holds 7 _ i (le-leb (sampleCount h) (set .room) fits) ∙ runAt-done h i
+    pub header-refused : (n : ℕ) → runAt header s (placeOf 0) ≡ refusedAt n → result set s ≡ untouched n
+    header-refused n e = shut n (header-next ∙ bind-refused header s (placeOf 0) _ e)
 
-        pub no-first-bit : runAt (bits 1) s p ≡ shortAt → result set s ≡ untouched (cutShort s)
-        unfolding result resultOf begun
-        no-first-bit f =
-            ap (λ x. resultOf s x (runAt (frame set) s (placeOf 0)))
-            (bind-got (opening set) s (placeOf 0) _ opened ∙ bind-short (bits 1) s p _ f)
+    pub opening-short : runAt header s (placeOf 0) ≡ shortAt → runAt (opening set) s (placeOf 0) ≡ shortAt
+    opening-short e = header-next ∙ bind-short header s (placeOf 0) _ e
 
-        module _ {v : ℕ} {q : Place} (f : runAt (bits 1) s p ≡ gotAt v q) where
-          started : runAt (begun set) s (placeOf 0) ≡ gotAt h q
-          unfolding begun
-          started = bind-got (opening set) s (placeOf 0) _ opened ∙ bind-got (bits 1) s p _ f ∙ runAt-done h (stays-in (bits 1) s p f)
+    pub header-short : runAt header s (placeOf 0) ≡ shortAt → result set s ≡ untouched (cutShort s)
+    unfolding result resultOf begun
+    header-short e =
+        ap (λ x. resultOf (set .given) s x (runAt (frame set) s (placeOf 0))) (bind-short (opening set) s (placeOf 0) _ (opening-short e))
 
-          pub body-read : {xs : List ℤ} {end : Place} → runAt (body h) s p ≡ gotAt xs end → result set s ≡ record { report = accepted h end; front = xs }
-          unfolding result resultOf finished frame
-          body-read g =
-              ap₂ (resultOf s) started
-              (bind-got (opening set) s (placeOf 0) _ opened ∙ bind-got (body h) s p _ g ∙ runAt-done _ (stays-in (body h) s p g))
+    module _ {h : FrameHeader} {p : Place} (e : runAt header s (placeOf 0) ≡ gotAt h p) where
+      inside : In s p
+      inside = stays-in header s (placeOf 0) e
 
-          pub body-refused : (n : ℕ) → runAt (body h) s p ≡ refusedAt n → result set s ≡ zeroed n h
-          unfolding result resultOf finished frame
-          body-refused n g = ap₂ (resultOf s) started (bind-got (opening set) s (placeOf 0) _ opened ∙ bind-refused (body h) s p _ g)
+      header-got : runAt (opening set) s (placeOf 0) ≡ runAt (afterHeader h) s p
+      header-got = header-next ∙ bind-got header s (placeOf 0) _ e
 
-          pub body-short : runAt (body h) s p ≡ shortAt → result set s ≡ zeroed 2 h
-          unfolding result resultOf finished frame
-          body-short g = ap₂ (resultOf s) started (bind-got (opening set) s (placeOf 0) _ opened ∙ bind-short (body h) s p _ g)
+      pub no-bits : h .bits ≤ 0 → result set s ≡ untouched 8
+      unfolding afterHeader
+      no-bits none = shut 8 (header-got ∙ require-fails 8 _ inside (le-ltb 0 (h .bits) none))
+
+      module _ (some : 0 < h .bits) where
+        bits-known : runAt (opening set) s (placeOf 0) ≡ runAt (afterBits h) s p
+        unfolding afterHeader
+        bits-known = header-got ∙ require-holds 8 _ inside (lt-ltb 0 (h .bits) some)
+
+        pub larger-block : blockFits (set .given .block) (h .time) (h .size) ≡ false → result set s ≡ untouched 9
+        unfolding afterBits
+        larger-block larger = shut 9 (bits-known ∙ require-fails 9 _ inside larger)
+
+        module _ (within : blockFits (set .given .block) (h .time) (h .size) ≡ true) where
+          block-known : runAt (opening set) s (placeOf 0) ≡ runAt (afterBlock h) s p
+          unfolding afterBits
+          block-known = bits-known ∙ require-holds 9 _ inside within
+
+          pub no-room : set .room < sampleCount h → result set s ≡ untouched 7
+          unfolding afterBlock
+          no-room less = shut 7 (block-known ∙ require-fails 7 _ inside (lt-leb (sampleCount h) (set .room) less))
+
+          module _ (fits : sampleCount h ≤ set .room) where
+            opened : runAt (opening set) s (placeOf 0) ≡ gotAt h p
+            unfolding afterBlock
+            opened = block-known ∙ require-holds 7 _ inside (le-leb (sampleCount h) (set .room) fits) ∙ runAt-done h inside
+
+            pub no-first-bit : runAt (bits 1) s p ≡ shortAt → result set s ≡ untouched (cutShort s)
+            unfolding result resultOf begun
+            no-first-bit f =
+                ap (λ x. resultOf (set .given) s x (runAt (frame set) s (placeOf 0)))
+                (bind-got (opening set) s (placeOf 0) _ opened ∙ bind-short (bits 1) s p _ f)
+
+            module _ {v : ℕ} {q : Place} (f : runAt (bits 1) s p ≡ gotAt v q) where
+              started : runAt (begun set) s (placeOf 0) ≡ gotAt h q
+              unfolding begun
+              started = bind-got (opening set) s (placeOf 0) _ opened ∙ bind-got (bits 1) s p _ f ∙ runAt-done h (stays-in (bits 1) s p f)
+
+              pub body-read : {xs : List ℤ} {end : Place} → runAt (body h) s p ≡ gotAt xs end → result set s ≡ record { report = accepted (set .given) h end; front = xs }
+              unfolding result resultOf finished frame
+              body-read g =
+                  ap₂ (resultOf (set .given) s) started
+                  (bind-got (opening set) s (placeOf 0) _ opened ∙ bind-got (body h) s p _ g ∙ runAt-done _ (stays-in (body h) s p g))
+
+              pub body-refused : (n : ℕ) → runAt (body h) s p ≡ refusedAt n → result set s ≡ zeroed n h
+              unfolding result resultOf finished frame
+              body-refused n g =
+                  ap₂ (resultOf (set .given) s) started (bind-got (opening set) s (placeOf 0) _ opened ∙ bind-refused (body h) s p _ g)
+
+              pub body-short : runAt (body h) s p ≡ shortAt → result set s ≡ zeroed 2 h
+              unfolding result resultOf finished frame
+              body-short g = ap₂ (resultOf (set .given) s) started (bind-got (opening set) s (placeOf 0) _ opened ∙ bind-short (body h) s p _ g)

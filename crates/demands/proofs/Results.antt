@@ -14,6 +14,7 @@ use Rattle.reading.proofs.ByteRuns.{runAt-bind, bind-refused}
 use Rattle.reading.proofs.BytePrefixes.{runAt-append, runAt-forward, runAt-take, runAt-take-short}
 use Rattle.reading.proofs.Postconditions.{Meets, holds-at}
 use Rattle.rfc9639.specs.declared.FrameHeader.{FrameHeader}
+use Rattle.rfc9639.specs.declared.Settings.{Settings}
 use Rattle.rfc9639.specs.Header.{sampleCount}
 use Rattle.rfc9639.specs.Frame.{ReaderSettings, opening, Frame, frame}
 use Rattle.rfc9639.specs.Read.{refusal, accepted, Result, untouched, zeroed, cutShort, begun, finished, resultOf, result}
@@ -55,7 +56,7 @@ module _ (set : ReaderSettings) (s : List ℕ) where
     pub opened : runAt (begun set) s (placeOf 0) ≡ gotAt (whole .header) place
     pub ran : runAt (frame set) s (placeOf 0) ≡ gotAt whole end
     pub aligned : end .bit ≡ 0
-    pub is : r ≡ record { report = accepted (whole .header) end; front = whole .samples }
+    pub is : r ≡ record { report = accepted (set .given) (whole .header) end; front = whole .samples }
 
   had-begun : {f : Frame} {end : Place} → runAt (frame set) s (placeOf 0) ≡ gotAt f end
       → (end .bit ≡ 0) × ((p : Place) × (runAt (begun set) s (placeOf 0) ≡ gotAt (f .header) p))
@@ -65,9 +66,9 @@ module _ (set : ReaderSettings) (s : List ℕ) where
       e
 
   -- the result where a frame was read
-  pub frame-result : {f : Frame} {end : Place} → runAt (frame set) s (placeOf 0) ≡ gotAt f end → result set s ≡ record { report = accepted (f .header) end; front = f .samples }
+  pub frame-result : {f : Frame} {end : Place} → runAt (frame set) s (placeOf 0) ≡ gotAt f end → result set s ≡ record { report = accepted (set .given) (f .header) end; front = f .samples }
   unfolding result resultOf finished
-  frame-result e = ap₂ (resultOf s) (had-begun e .1 .1) e
+  frame-result e = ap₂ (resultOf (set .given) s) (had-begun e .1 .1) e
 
   frame-read : {f : Frame} {end : Place} → runAt (frame set) s (placeOf 0) ≡ gotAt f end → Read (result set s)
   frame-read {f} {end} e = record {
@@ -86,19 +87,19 @@ module _ (set : ReaderSettings) (s : List ℕ) where
   zero-read z = go (runAt (begun set) s (placeOf 0)) refl (runAt (frame set) s (placeOf 0)) refl z
     where
       go : (x : At FrameHeader) → runAt (begun set) s (placeOf 0) ≡ x → (y : At Frame) → runAt (frame set) s (placeOf 0) ≡ y
-          → resultOf s x y .report .number ≡ 0 → Read (result set s)
+          → resultOf (set .given) s x y .report .number ≡ 0 → Read (result set s)
       go (gotAt h p) e (gotAt f end) g z = frame-read g
       go (gotAt h p) e (refusedAt n) g z = absurd (omega (arith, subst (Meets Listed (FrameInRoom set)) g (holds-at Listed (FrameInRoom set) s (placeOf 0) (frame-holds set))))
       go (gotAt h p) e shortAt g z = absurd (omega arith)
       go (refusedAt n) e y g z = absurd (omega (arith, subst (Meets Early (HeaderInRoom set)) e (holds-at Early (HeaderInRoom set) s (placeOf 0) (begun-holds set))))
       go shortAt e y g z = absurd (cut-number s .0 z)
 
-  -- every number is one of document 01's
-  pub number-listed : result set s .report .number ≤ 10
+  -- every number is a listed one
+  pub number-listed : result set s .report .number ≤ 11
   unfolding result resultOf finished untouched zeroed refusal accepted
   number-listed = go (runAt (begun set) s (placeOf 0)) refl (runAt (frame set) s (placeOf 0)) refl
     where
-      go : (x : At FrameHeader) → runAt (begun set) s (placeOf 0) ≡ x → (y : At Frame) → runAt (frame set) s (placeOf 0) ≡ y → resultOf s x y .report .number ≤ 10
+      go : (x : At FrameHeader) → runAt (begun set) s (placeOf 0) ≡ x → (y : At Frame) → runAt (frame set) s (placeOf 0) ≡ y → resultOf (set .given) s x y .report .number ≤ 11
       go (gotAt h p) e (gotAt f end) g = omega arith
       go (gotAt h p) e (refusedAt n) g = omega (arith, subst (Meets Listed (FrameInRoom set)) g (holds-at Listed (FrameInRoom set) s (placeOf 0) (frame-holds set)))
       go (gotAt h p) e shortAt g = omega arith
@@ -114,7 +115,7 @@ module _ (set : ReaderSettings) (s : List ℕ) where
       opened e = subst (Meets Early (HeaderInRoom set)) e (holds-at Early (HeaderInRoom set) s (placeOf 0) (begun-holds set))
 
       go : (x : At FrameHeader) → runAt (begun set) s (placeOf 0) ≡ x → (y : At Frame) → runAt (frame set) s (placeOf 0) ≡ y
-          → length (resultOf s x y .front) ≤ set .room
+          → length (resultOf (set .given) s x y .front) ≤ set .room
       go (gotAt h p) e (gotAt f end) g =
           let w = subst (Meets Listed (FrameInRoom set)) g (holds-at Listed (FrameInRoom set) s (placeOf 0) (frame-holds set)) in omega (arith, w .samples .count, w .header .room)
       go (gotAt h p) e (refusedAt n) g = omega (arith, length-replicate (sampleCount h) (pos 0), opened e .room)
@@ -132,13 +133,13 @@ module _ (set : ReaderSettings) (s : List ℕ) where
       longer p e n = runAt-append p s (placeOf 0) t (λ q. n (sym e ∙ q)) ∙ e
 
       go : (x : At FrameHeader) → runAt (begun set) s (placeOf 0) ≡ x → (y : At Frame) → runAt (frame set) s (placeOf 0) ≡ y
-          → resultOf s x y .report .number ≢ 1 → resultOf s x y .report .number ≢ 2
-          → resultOf (s ++ t) (runAt (begun set) (s ++ t) (placeOf 0)) (runAt (frame set) (s ++ t) (placeOf 0)) ≡ resultOf s x y
-      go (gotAt h p) e (gotAt f end) g one two = ap₂ (resultOf (s ++ t)) (longer (begun set) e (got-short h p)) (longer (frame set) g (got-short f end))
-      go (gotAt h p) e (refusedAt n) g one two = ap₂ (resultOf (s ++ t)) (longer (begun set) e (got-short h p)) (longer (frame set) g (refused-short n))
+          → resultOf (set .given) s x y .report .number ≢ 1 → resultOf (set .given) s x y .report .number ≢ 2
+          → resultOf (set .given) (s ++ t) (runAt (begun set) (s ++ t) (placeOf 0)) (runAt (frame set) (s ++ t) (placeOf 0)) ≡ resultOf (set .given) s x y
+      go (gotAt h p) e (gotAt f end) g one two = ap₂ (resultOf (set .given) (s ++ t)) (longer (begun set) e (got-short h p)) (longer (frame set) g (got-short f end))
+      go (gotAt h p) e (refusedAt n) g one two = ap₂ (resultOf (set .given) (s ++ t)) (longer (begun set) e (got-short h p)) (longer (frame set) g (refused-short n))
       go (gotAt h p) e shortAt g one two = absurd (two refl)
       go (refusedAt n) e y g one two =
-          ap (λ x. resultOf (s ++ t) x (runAt (frame set) (s ++ t) (placeOf 0))) (longer (begun set) e (refused-short n))
+          ap (λ x. resultOf (set .given) (s ++ t) x (runAt (frame set) (s ++ t) (placeOf 0))) (longer (begun set) e (refused-short n))
       go shortAt e y g one two = absurd (cut-either s one two)
 
 -- ---- an accepted frame and its beginnings
@@ -172,29 +173,29 @@ module _ (set : ReaderSettings) (s : List ℕ) (z : result set s .report .number
       short = runAt-take-short (frame set) s (placeOf 0) (r .whole) (r .end) (r .ran) m (omega (arith, whole-bytes, consumed-is))
 
       go : Dec (position (r .place) ≤ 8 * m)
-          → resultOf (take m s) (runAt (begun set) (take m s) (placeOf 0)) (runAt (frame set) (take m s) (placeOf 0)) .report .number ≡ 2
+          → resultOf (set .given) (take m s) (runAt (begun set) (take m s) (placeOf 0)) (runAt (frame set) (take m s) (placeOf 0)) .report .number ≡ 2
       go (yes h) =
           ap (λ x. x .report .number)
-          (ap₂ (resultOf (take m s)) (runAt-take (begun set) s (placeOf 0) (r .whole .header) (r .place) (r .opened) m h) short)
+          (ap₂ (resultOf (set .given) (take m s)) (runAt-take (begun set) s (placeOf 0) (r .whole .header) (r .place) (r .opened) m h) short)
       go (no h) =
           ap (λ x. x .report .number)
-          (ap₂ (resultOf (take m s)) (runAt-take-short (begun set) s (placeOf 0) (r .whole .header) (r .place) (r .opened) m (omega arith)) short)
+          (ap₂ (resultOf (set .given) (take m s)) (runAt-take-short (begun set) s (placeOf 0) (r .whole .header) (r .place) (r .opened) m (omega arith)) short)
           ∙ cut-two m s some (omega (arith, there))
 
 -- ---- more room
 
-module _ (room room′ : ℕ) (more : room ≤ room′) (s : List ℕ) where
+module _ (given : Settings) (room room′ : ℕ) (more : room ≤ room′) (s : List ℕ) where
   abbrev small : ReaderSettings
-  small = record { room = room }
+  small = record { given = given; room = room }
 
   abbrev large : ReaderSettings
-  large = record { room = room′ }
+  large = record { given = given; room = room′ }
 
   pub roomier : result small s .report .number ≢ 7 → result large s ≡ result small s
   unfolding result resultOf untouched refusal begun frame
   roomier lacks =
-      let same = opening-more room room′ more s (placeOf 0) (λ e. lacks (ap (λ x. resultOf s x (runAt (frame small) s (placeOf 0)) .report .number) (bind-refused (opening small) s (placeOf 0) _ e))) in
-      ap₂ (resultOf s) (alike _ same) (alike _ same)
+      let same = opening-more given room room′ more s (placeOf 0) (λ e. lacks (ap (λ x. resultOf given s x (runAt (frame small) s (placeOf 0)) .report .number) (bind-refused (opening small) s (placeOf 0) _ e))) in
+      ap₂ (resultOf given s) (alike _ same) (alike _ same)
     where
       alike : {A : Type 0} (k : FrameHeader → Ask A) → runAt (opening large) s (placeOf 0) ≡ runAt (opening small) s (placeOf 0)
           → runAt (opening large >>= k) s (placeOf 0) ≡ runAt (opening small >>= k) s (placeOf 0)

@@ -14,11 +14,14 @@ use Rattle.reading.specs.Bytes.{bitsOfBytes}
 use Rattle.reading.specs.Places.{placeOf, gotAt, refusedAt, shortAt, toAt, inside, runAt}
 use Rattle.reading.proofs.ByteRuns.{bind-short}
 use Rattle.error.specs.declared.Refusal.{Refusal}
-use Rattle.error.specs.declared.Refusal.the-variants.{NothingLeft, CutShort, NoRoom, NotDone}
+use Rattle.error.specs.declared.Refusal.the-variants.{NothingLeft, CutShort, NoRoom, NotDone, BadShape, BadArgument}
 use Rattle.error.specs.Numbers.{numberOf, refusedBy}
+use Rattle.rfc9639.specs.declared.FirstSample.{FirstSample}
 use Rattle.rfc9639.specs.declared.FrameHeader.{FrameHeader}
+use Rattle.rfc9639.specs.declared.Settings.{Settings}
 use Rattle.rfc9639.specs.HeaderCodes.{channelCount}
-use Rattle.rfc9639.specs.Header.{sync, codes, header, sampleCount, firstSample}
+use Rattle.rfc9639.specs.Header.{sync, codes, header, sampleCount}
+use Rattle.rfc9639.specs.Stream.{possible, blockFits, firstSample}
 use Rattle.rfc9639.specs.Frame.{ReaderSettings, body}
 use Rattle.rfc9639.specs.Read.{accepted, Result, untouched, zeroed, cutShort, result, read}
 use Rattle.demands.proofs.ResultCases as cases
@@ -51,79 +54,88 @@ unfolding cutShort
 cutShort-nonempty [] some = absurd (some refl)
 cutShort-nonempty (x ∷ s) some = refl
 
-module _ (s : List ℕ) (b : List ℤ) where
+module _ (given : Settings) (s : List ℕ) (b : List ℤ) where
   abbrev set : ReaderSettings
-  set = record { room = length b }
+  set = record { given = given; room = length b }
 
   -- ---- the answer and the samples, by the definition's result
 
   reads-result : {r : Result} → result set s ≡ r → {a : ReadAnswer} {left : List ℤ} → reportOf a ≡ r .report → left ≡ r .front ++ drop (length (r .front)) b
-      → Reads (read s b) a left
+      → Reads (read given s b) a left
   unfolding read
   reads-result e f g = record {
     report = f ∙ ap (λ x. x .report) (sym e);
     samples = g ∙ ap (λ x. x .front ++ drop (length (x .front)) b) (sym e);
   }
 
-  reads-untouched : (e : Refusal) → result set s ≡ untouched (numberOf e) → Reads (read s b) (ReadAnswer.Refused e) b
+  reads-untouched : (e : Refusal) → result set s ≡ untouched (numberOf e) → Reads (read given s b) (ReadAnswer.Refused e) b
   unfolding untouched
   reads-untouched e q = reads-result q refl refl
 
   reads-zeroed : (e : Refusal) (h : FrameHeader) → result set s ≡ zeroed (numberOf e) h → {left : List ℤ}
-      → left ≡ replicate (sampleCount h) (pos 0) ++ drop (sampleCount h) b → Reads (read s b) (ReadAnswer.Refused e) left
+      → left ≡ replicate (sampleCount h) (pos 0) ++ drop (sampleCount h) b → Reads (read given s b) (ReadAnswer.Refused e) left
   unfolding zeroed
   reads-zeroed e h q z =
       reads-result q refl (z ∙ ap (λ n. replicate (sampleCount h) (pos 0) ++ drop n b) (sym (length-replicate (sampleCount h) (pos 0))))
 
   -- ---- before the header is read
 
-  pub nothing-left : length s ≡ 0 → Reads (read s b) (ReadAnswer.Refused NothingLeft) b
-  nothing-left e = reads-untouched NothingLeft (cases.header-short set s (no-header s e) ∙ ap untouched (cutShort-empty s e))
+  pub settings-refused : possible given ≡ false → Reads (read given s b) (ReadAnswer.Refused BadArgument) b
+  settings-refused bad = reads-untouched BadArgument (cases.impossible set s bad)
 
-  pub header-stops : (length s ≡ 0 → ⊥) → (e : Refusal) → runAt header s (placeOf 0) ≡ refusedBy e → Reads (read s b) (ReadAnswer.Refused e) b
-  header-stops some e = go (eqb (numberOf e) 2) refl
-    where
-      go : (x : Bool) → eqb (numberOf e) 2 ≡ x → runAt header s (placeOf 0) ≡ cond x shortAt (refusedAt (numberOf e)) → Reads (read s b) (ReadAnswer.Refused e) b
-      go true f h = reads-untouched e (cases.header-short set s h ∙ ap untouched (cutShort-nonempty s some ∙ sym (eqb-true (numberOf e) 2 f)))
-      go false f h = reads-untouched e (cases.header-refused set s (numberOf e) h)
+  module _ (ok : possible given ≡ true) where
+    pub nothing-left : length s ≡ 0 → Reads (read given s b) (ReadAnswer.Refused NothingLeft) b
+    nothing-left e = reads-untouched NothingLeft (cases.header-short set s ok (no-header s e) ∙ ap untouched (cutShort-empty s e))
 
-  -- ---- after a header
+    pub header-stops : (length s ≡ 0 → ⊥) → (e : Refusal) → runAt header s (placeOf 0) ≡ refusedBy e → Reads (read given s b) (ReadAnswer.Refused e) b
+    header-stops some e = go (eqb (numberOf e) 2) refl
+      where
+        go : (x : Bool) → eqb (numberOf e) 2 ≡ x → runAt header s (placeOf 0) ≡ cond x shortAt (refusedAt (numberOf e)) → Reads (read given s b) (ReadAnswer.Refused e) b
+        go true f h = reads-untouched e (cases.header-short set s ok h ∙ ap untouched (cutShort-nonempty s some ∙ sym (eqb-true (numberOf e) 2 f)))
+        go false f h = reads-untouched e (cases.header-refused set s ok (numberOf e) h)
 
-  module _ {h : FrameHeader} {p : Place} (e : runAt header s (placeOf 0) ≡ gotAt h p) where
-    some-bytes : length s ≡ 0 → ⊥
-    some-bytes f = let d = no-header s f in let z : _≡_ {A = ℕ} 0 1 = cc in omega arith
+    -- ---- after a header
 
-    pub no-bits : h .bits ≡ 0 → Reads (read s b) (ReadAnswer.Refused NotDone) b
-    no-bits f = reads-untouched NotDone (cases.no-bits set s e (omega arith))
+    module _ {h : FrameHeader} {p : Place} (e : runAt header s (placeOf 0) ≡ gotAt h p) where
+      some-bytes : length s ≡ 0 → ⊥
+      some-bytes f = let d = no-header s f in let z : _≡_ {A = ℕ} 0 1 = cc in omega arith
 
-    module _ (deep : h .bits ≡ 0 → ⊥) where
-      some-bits : 0 < h .bits
-      some-bits = omega arith
+      pub no-bits : h .bits ≡ 0 → Reads (read given s b) (ReadAnswer.Refused NotDone) b
+      no-bits f = reads-untouched NotDone (cases.no-bits set s ok e (omega arith))
 
-      pub no-room : length b < sampleCount h → Reads (read s b) (ReadAnswer.Refused NoRoom) b
-      no-room less = reads-untouched NoRoom (cases.no-room set s e some-bits less)
+      module _ (deep : h .bits ≡ 0 → ⊥) where
+        some-bits : 0 < h .bits
+        some-bits = omega arith
 
-      module _ (fits : sampleCount h ≤ length b) where
-        pub no-first-bit : runAt (bits 1) s p ≡ shortAt → Reads (read s b) (ReadAnswer.Refused CutShort) b
-        no-first-bit f = reads-untouched CutShort (cases.no-first-bit set s e some-bits fits f ∙ ap untouched (cutShort-nonempty s some-bytes))
+        pub larger-block : blockFits (given .block) (h .time) (h .size) ≡ false → Reads (read given s b) (ReadAnswer.Refused BadShape) b
+        larger-block larger = reads-untouched BadShape (cases.larger-block set s ok e some-bits larger)
 
-        -- what the decoder of the body left is the front of the buffer
-        module _ {v : ℕ} {q : Place} (f : runAt (bits 1) s p ≡ gotAt v q) {r : Decoded} {front left : List ℤ} (leaves : Left (runAt (body h) s p) (sampleCount h) r front)
-            (stands : left ≡ front ++ drop (sampleCount h) b) where
-          pub body-read : {end : Place} → r ≡ Done end → length front ≡ sampleCount h → {first channels : ℕ} → first ≡ firstSample h → channels ≡ channelCount (h .channels)
-              → Reads (read s b) (ReadAnswer.Frame (record { consumed = end .byte; first = first; channels = channels; bits = h .bits; size = h .size })) left
-          unfolding accepted
-          body-read {end} d long i j =
-              reads-result (cases.body-read set s e some-bits fits f (done-is front (leaves .answer) d))
-              (ap₂ (λ (x y : ℕ). record { number = 0; consumed = end .byte; first = x; channels = y; bits = h .bits; size = h .size }) i j)
-              (stands ∙ ap (λ n. front ++ drop n b) (sym long))
+        module _ (within : blockFits (given .block) (h .time) (h .size) ≡ true) where
+          pub no-room : length b < sampleCount h → Reads (read given s b) (ReadAnswer.Refused NoRoom) b
+          no-room less = reads-untouched NoRoom (cases.no-room set s ok e some-bits within less)
 
-          pub body-refused : {x : Refusal} → r ≡ Refused x → Reads (read s b) (ReadAnswer.Refused x) left
-          body-refused {x} d = reads-zeroed x h (go (eqb (numberOf x) 2) refl (refused-is front (leaves .answer) d)) (stands ∙ ap (λ l. l ++ drop (sampleCount h) b) zeros)
-            where
-              zeros : front ≡ replicate (sampleCount h) (pos 0)
-              zeros = subst (λ y. cleared y (sampleCount h) front) d (leaves .stopped)
+          module _ (fits : sampleCount h ≤ length b) where
+            pub no-first-bit : runAt (bits 1) s p ≡ shortAt → Reads (read given s b) (ReadAnswer.Refused CutShort) b
+            no-first-bit f = reads-untouched CutShort (cases.no-first-bit set s ok e some-bits within fits f ∙ ap untouched (cutShort-nonempty s some-bytes))
 
-              go : (y : Bool) → eqb (numberOf x) 2 ≡ y → runAt (body h) s p ≡ cond y shortAt (refusedAt (numberOf x)) → result set s ≡ zeroed (numberOf x) h
-              go true g k = cases.body-short set s e some-bits fits f k ∙ ap (λ n. zeroed n h) (sym (eqb-true (numberOf x) 2 g))
-              go false g k = cases.body-refused set s e some-bits fits f (numberOf x) k
+            -- what the decoder of the body left is the front of the buffer
+            module _ {v : ℕ} {q : Place} (f : runAt (bits 1) s p ≡ gotAt v q) {r : Decoded} {front left : List ℤ} (leaves : Left (runAt (body h) s p) (sampleCount h) r front)
+                (stands : left ≡ front ++ drop (sampleCount h) b) where
+              pub body-read : {end : Place} → r ≡ Done end → length front ≡ sampleCount h
+                  → {first : FirstSample} {channels : ℕ} → first ≡ firstSample (given .block) (h .time) → channels ≡ channelCount (h .channels)
+                  → Reads (read given s b) (ReadAnswer.Frame (record { consumed = end .byte; first = first; channels = channels; bits = h .bits; size = h .size })) left
+              unfolding accepted
+              body-read {end} d long i j =
+                  reads-result (cases.body-read set s ok e some-bits within fits f (done-is front (leaves .answer) d))
+                  (ap₂ (λ (x : FirstSample) (y : ℕ). record { number = 0; consumed = end .byte; first = x; channels = y; bits = h .bits; size = h .size }) i j)
+                  (stands ∙ ap (λ n. front ++ drop n b) (sym long))
+
+              pub body-refused : {x : Refusal} → r ≡ Refused x → Reads (read given s b) (ReadAnswer.Refused x) left
+              body-refused {x} d = reads-zeroed x h (go (eqb (numberOf x) 2) refl (refused-is front (leaves .answer) d)) (stands ∙ ap (λ l. l ++ drop (sampleCount h) b) zeros)
+                where
+                  zeros : front ≡ replicate (sampleCount h) (pos 0)
+                  zeros = subst (λ y. cleared y (sampleCount h) front) d (leaves .stopped)
+
+                  go : (y : Bool) → eqb (numberOf x) 2 ≡ y → runAt (body h) s p ≡ cond y shortAt (refusedAt (numberOf x)) → result set s ≡ zeroed (numberOf x) h
+                  go true g k = cases.body-short set s ok e some-bits within fits f k ∙ ap (λ n. zeroed n h) (sym (eqb-true (numberOf x) 2 g))
+                  go false g k = cases.body-refused set s ok e some-bits within fits f (numberOf x) k

@@ -16,12 +16,10 @@ use Rattle.reading.proofs.ByteRuns.{In, stays-in, runAt-done, bind-got, prepend
 use Rattle.error.specs.declared.Refusal.{Refusal}
 use Rattle.error.specs.Numbers.{refusedBy}
 use Rattle.error.proofs.Refusals.{bind-refusal}
-use Rattle.rfc9639.specs.declared.BlockTime.the-variants.{FrameNumber, SampleNumber}
 use Rattle.rfc9639.specs.declared.ChannelAssignment.{ChannelAssignment}
 use Rattle.rfc9639.specs.declared.ChannelAssignment.the-variants.{Independent, LeftSide, SideRight, MidSide}
 use Rattle.rfc9639.specs.declared.FrameHeader.{FrameHeader}
 use Rattle.rfc9639.specs.HeaderCodes.{channelCount}
-use Rattle.rfc9639.specs.Header.{firstSample}
 use Rattle.rfc9639.specs.Subframe.{subframe}
 use Rattle.rfc9639.specs.Stereo.{leftAndRight}
 use Rattle.rfc9639.specs.Frame.{widths, footer, body}
@@ -31,17 +29,6 @@ use Rattle.subframe.specs.Answers.{samplesAt, Left, subframeAt}
 use Rattle.subframe.proofs.SliceParts.{done-is, refused-is, passed-on, prepended-refusal, part-size, part-taken}
 use Rattle.subframe.proofs.Partitions.{first-refused}
 use Rattle.subframe.proofs.DecodedSubframes.{not-wide, left-refused}
-
--- ---- the number of the first sample
-
-module _ (h : FrameHeader) {n : ℕ} where
-  pub first-by-frame-number : h .time ≡ FrameNumber n → firstSample h ≡ h .size * n
-  unfolding firstSample
-  first-by-frame-number e = rw e
-
-  pub first-by-sample-number : h .time ≡ SampleNumber n → firstSample h ≡ n
-  unfolding firstSample
-  first-by-sample-number e = rw e
 
 -- ---- the widths
 

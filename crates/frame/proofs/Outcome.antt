@@ -22,4 +22,4 @@ report-tells (ReadAnswer.Refused x) (ReadAnswer.Refused y) e = ap ReadAnswer.Ref
 
 pub read-frame-one : OneOutcome read_frame.ended read_frame.Reads.Learnt
 read-frame-one κs args r r′ left left′ p q =
-    (report-tells r r′ (one-value (p .report) (q .report)), ap (λ l. (tt, (l, tt))) (one-value (p .samples) (q .samples)))
+    (report-tells r r′ (one-value (p .report) (q .report)), ap (λ l. (tt, (tt, (l, tt)))) (one-value (p .samples) (q .samples)))

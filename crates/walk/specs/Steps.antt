@@ -5,10 +5,11 @@ use mathlib.Core.Path.{_≡_}
 use mathlib.Core.List.{List}
 use lib.IntN.{ℤ}
 use lib.ListN.{drop}
+use Rattle.rfc9639.specs.declared.Settings.{Settings}
 use Rattle.rfc9639.specs.Read.{read}
 use Rattle.frame.specs.Reads.{Reads}
 use Rattle.walk.specs.declared.Step.{Step}
 
-pub record Steps (s : List ℕ) (place : ℕ) (b : List ℤ) (r : Step) (left : List ℤ) : Type 0 where
-  pub answer : Reads (read (drop place s) b) (r .answer) left
-  pub next : r .place ≡ place + read (drop place s) b .report .consumed
+pub record Steps (s : List ℕ) (place : ℕ) (set : Settings) (b : List ℤ) (r : Step) (left : List ℤ) : Type 0 where
+  pub answer : Reads (read set (drop place s) b) (r .answer) left
+  pub next : r .place ≡ place + read set (drop place s) b .report .consumed

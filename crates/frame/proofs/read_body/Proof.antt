@@ -2,6 +2,7 @@
 use Prim.Native.Nat.{ℕ, _*_, _≤_}
 use native.Mathlib.Nat.{mul-le-mul}
 use native.Mathlib.Omega.{arith}
+use mathlib.Core.Bool.{true}
 use mathlib.Core.Path.{_≡_, ap, sym, _∙_, subst}
 use mathlib.Core.List.{List, _++_}
 use borrow.Author.Needs.{needs}
@@ -9,13 +10,16 @@ use lib.IntN.{ℤ}
 use lib.ListN.{length, take, drop}
 use lib.Seq.{length-take-le}
 use Rattle.reading.specs.Places.{gotAt, placeOf, runAt}
+use Rattle.rfc9639.specs.declared.Settings.{Settings}
 use Rattle.rfc9639.specs.Header.{header, sampleCount}
+use Rattle.rfc9639.specs.Stream.{possible, blockFits}
 use Rattle.rfc9639.specs.Frame.{body}
 use Rattle.demands.proofs.Headers.{Sound}
 use Rattle.input.proofs.Callers.{bit-is}
 use Rattle.subframe.specs.Answers.{Left}
 use Rattle.header.proofs.HeaderParts.{header-sound}
-use Rattle.frame.proofs.AnswerCases.{no-bits, no-room, no-first-bit, body-read, body-refused}
+use Rattle.frame.proofs.StreamBlocks.{not-true, not-false, first-fits}
+use Rattle.frame.proofs.AnswerCases.{no-bits, larger-block, no-room, no-first-bit, body-read, body-refused}
 use Rattle.frame.proofs.read_body.Statement.{statement}
 use Rattle.frame.proofs.read_body.Tie as tie
 
@@ -37,7 +41,14 @@ module _ (c : tie.After-channel-count) where
   count = c .channel-count .result * start .args .h .size
 
   header-is : runAt header bytes (placeOf 0) ≡ gotAt (start .args .h) (start .args .at)
-  header-is = sym (start .pre)
+  header-is = sym (start .pre .1)
+
+  -- the settings are possible
+  ok : possible (start .args .set) ≡ true
+  ok = start .pre .0
+
+  abbrev set : Settings
+  set = start .args .set
 
   sound : Sound (start .args .h)
   sound = header-sound bytes header-is
@@ -56,16 +67,35 @@ mul-count : tie.Need-mul-count
 mul-count c = omega (arith, count-few (c .before))
 
 returns : tie.Need-returns
-returns c = let k = c .before .before in no-bits (bytes k) (lent k) (header-is k) (c .if1 .taken)
+returns c = let k = c .before .before in no-bits (set k) (bytes k) (lent k) (ok k) (header-is k) (c .if1 .taken)
+
+block-fits-requires : tie.Need-block-fits-requires
+block-fits-requires c κs = search needs
 
 returns-2 : tie.Need-returns-2
 returns-2 c =
-    let k = c .before .before .before in
-    no-room (bytes k) (lent k) (header-is k) (c .before .if1 .left) (omega (arith, count-is k, c .if2 .taken))
+    let d = c .before in let k = d .before .before .before in
+    larger-block (set k) (bytes k) (lent k) (ok k) (header-is k) (d .before .if1 .left) (sym (d .block-fits .ensures) ∙ not-true (c .if2 .taken))
+
+-- the block fits the stream
+module _ (c : tie.Else2) where
+  abbrev checked : tie.After-channel-count
+  checked = c .before .before .before .before
+
+  deep : start checked .args .h .bits ≡ 0 → ⊥
+  deep = c .before .before .if1 .left
+
+  within : blockFits (set checked .block) (start checked .args .h .time) (start checked .args .h .size) ≡ true
+  within = sym (c .before .block-fits .ensures) ∙ not-false (c .if2 .left)
+
+returns-3 : tie.Need-returns-3
+returns-3 c =
+    let e = c .before in let k = checked e in
+    no-room (set k) (bytes k) (lent k) (ok k) (header-is k) (deep e) (within e) (omega (arith, count-is k, c .if3 .taken))
 
 -- there is room
-fits : (c : tie.Else2) → sampleCount (start (c .before .before .before) .args .h) ≤ length (lent (c .before .before .before))
-fits c = omega (arith, count-is (c .before .before .before), c .if2 .left)
+fits : (c : tie.Else3) → sampleCount (start (checked (c .before)) .args .h) ≤ length (lent (checked (c .before)))
+fits c = omega (arith, count-is (checked (c .before)), c .if3 .left)
 
 read-bits-requires : tie.Need-read-bits-requires
 read-bits-requires c κs = search needs
@@ -76,40 +106,40 @@ enum-told c = search needs
 enum-told-2 : tie.Need-enum-told-2
 enum-told-2 c = search needs
 
-returns-3 : tie.Need-returns-3
-returns-3 c =
-    let r = c .before .before in let i = r .before in let k = i .before .before .before in
-    no-first-bit (bytes k) (lent k) (header-is k) (i .before .if1 .left) (fits i) (bit-is (bytes k) _ (r .read-bits .ensures) (c .enum-told2 .given .1))
+returns-4 : tie.Need-returns-4
+returns-4 c =
+    let r = c .before .before in let i = r .before in let e = i .before in let k = checked e in
+    no-first-bit (set k) (bytes k) (lent k) (ok k) (header-is k) (deep e) (within e) (fits i) (bit-is (bytes k) _ (r .read-bits .ensures) (c .enum-told2 .given .1))
 
 slice-relend-prefix-decode-body : tie.Need-slice-relend-prefix-decode-body
 slice-relend-prefix-decode-body c = search needs
 
 slice-aggregate-decode-body : tie.Need-slice-aggregate-decode-body
 slice-aggregate-decode-body c =
-    let i = c .before .before .before .before in let k = i .before .before .before in
-    sym (length-take-le (count k) (lent k) (i .if2 .left))
+    let i = c .before .before .before .before in let k = checked (i .before) in
+    sym (length-take-le (count k) (lent k) (i .if3 .left))
 
 decode-body-requires : tie.Need-decode-body-requires
 decode-body-requires c κs =
-    let i = c .before .before .before .before in let k = i .before .before .before in
-    (sound k .mono, sound k .bits, part-is k (i .if2 .left))
+    let i = c .before .before .before .before in let k = checked (i .before) in
+    (sound k .mono, sound k .bits, part-is k (i .if3 .left))
 
 -- a body whose decoding has begun
 module _ (c : tie.After-decode-body) where
   abbrev after-bit : tie.After-enum-told
   after-bit = c .before .before
 
-  abbrev inner : tie.Else2
+  abbrev inner : tie.Else3
   inner = after-bit .before .before .before
 
   abbrev known : tie.After-channel-count
-  known = inner .before .before .before
+  known = checked (inner .before)
 
   abbrev front : List ℤ
   front = c .decode-body .last .1 .1 .1 .0
 
   part-long : length (take (count known) (lent known)) ≡ sampleCount (start known .args .h)
-  part-long = part-is known (inner .if2 .left)
+  part-long = part-is known (inner .if3 .left)
 
   long : length front ≡ sampleCount (start known .args .h)
   long = c .decode-body .kept .1 .1 .1 .0 ∙ part-long
@@ -126,7 +156,7 @@ enum-known-decoded : tie.Need-enum-known-decoded
 enum-known-decoded c = search needs
 
 first-sample-requires : tie.Need-first-sample-requires
-first-sample-requires c κs = let k = known (c .before .before .before .before) in omega (arith, sound k .first)
+first-sample-requires c κs = let k = known (c .before .before .before .before) in first-fits (set k) _ (ok k) (sound k .number)
 
 enum-known-decoded-2 : tie.Need-enum-known-decoded-2
 enum-known-decoded-2 c = search needs
@@ -134,19 +164,19 @@ enum-known-decoded-2 c = search needs
 same-length : tie.Need-same-length
 same-length c = search needs
 
-returns-4 : tie.Need-returns-4
-returns-4 c =
+returns-5 : tie.Need-returns-5
+returns-5 c =
     let g = c .before .before in let d = g .before .before .before in let t = after-bit d in let k = known d in
-    body-read (bytes k) (lent k) (header-is k) (inner d .before .if1 .left) (fits (inner d)) (bit-is (bytes k) _ (t .before .before .read-bits .ensures) (t .enum-told .given .1))
+    body-read (set k) (bytes k) (lent k) (ok k) (header-is k) (deep (inner d .before)) (within (inner d .before)) (fits (inner d)) (bit-is (bytes k) _ (t .before .before .read-bits .ensures) (t .enum-told .given .1))
     (left d) (stands d) (g .decoded .given .1) (long d) (c .first-sample .ensures) (k .channel-count .ensures)
 
 same-length-2 : tie.Need-same-length-2
 same-length-2 c = search needs
 
-returns-5 : tie.Need-returns-5
-returns-5 c =
+returns-6 : tie.Need-returns-6
+returns-6 c =
     let g = c .before in let d = g .before .before .before in let t = after-bit d in let k = known d in
-    body-refused (bytes k) (lent k) (header-is k) (inner d .before .if1 .left) (fits (inner d)) (bit-is (bytes k) _ (t .before .before .read-bits .ensures) (t .enum-told .given .1))
+    body-refused (set k) (bytes k) (lent k) (ok k) (header-is k) (deep (inner d .before)) (within (inner d .before)) (fits (inner d)) (bit-is (bytes k) _ (t .before .before .read-bits .ensures) (t .enum-told .given .1))
     (left d) (stands d) (g .decoded2 .given .1)
 
 pub read-body-spec : {M : Type 1} → statement M
@@ -156,11 +186,13 @@ read-body-spec =
     channel-count-requires
     mul-count
     returns
+    block-fits-requires
     returns-2
+    returns-3
     read-bits-requires
     enum-told
     enum-told-2
-    returns-3
+    returns-4
     slice-relend-prefix-decode-body
     slice-aggregate-decode-body
     decode-body-requires
@@ -168,6 +200,6 @@ read-body-spec =
     first-sample-requires
     enum-known-decoded-2
     same-length
-    returns-4
+    returns-5
     same-length-2
-    returns-5)
+    returns-6)

@@ -1,16 +1,29 @@
--- The whole frame: an empty input, no header, or a header and what follows it. Assumes nothing.
-use mathlib.Core.Path.{ap, sym, _∙_}
+-- The whole frame: bad settings, an empty input, no header, or a header and what follows it. Assumes nothing.
+use mathlib.Core.Bool.{true}
+use mathlib.Core.Path.{_≡_, ap, sym, _∙_}
 use borrow.Author.Needs.{needs}
+use Rattle.rfc9639.specs.Stream.{possible}
 use Rattle.header.specs.Answers.{headerAt}
 use Rattle.error.specs.Numbers.{refusedBy}
 use Rattle.header.proofs.ReaderSteps.{answer-is}
 use Rattle.frame.specs.Private.{headerRefusal}
-use Rattle.frame.proofs.AnswerCases.{nothing-left, header-stops}
+use Rattle.frame.proofs.AnswerCases.{settings-refused, nothing-left, header-stops}
+use Rattle.frame.proofs.StreamBlocks.{not-true, not-false}
 use Rattle.frame.proofs.read_frame.Statement.{statement}
 use Rattle.frame.proofs.read_frame.Tie as tie
 
+is-possible-requires : tie.Need-is-possible-requires
+is-possible-requires c κs = search needs
+
 returns : tie.Need-returns
-returns c = nothing-left _ _ (c .if1 .taken)
+returns c = settings-refused _ _ _ (sym (c .before .is-possible .ensures) ∙ not-true (c .if1 .taken))
+
+-- a stream can have the settings
+ok : (c : tie.Else1) → possible (c .before .before .before .args .set) ≡ true
+ok c = sym (c .before .is-possible .ensures) ∙ not-false (c .if1 .left)
+
+returns-2 : tie.Need-returns-2
+returns-2 c = nothing-left _ _ _ (ok (c .before)) (c .if2 .taken)
 
 read-header-requires : tie.Need-read-header-requires
 read-header-requires c κs = search needs
@@ -24,31 +37,35 @@ enum-told c = search needs
 header-refusal-requires : tie.Need-header-refusal-requires
 header-refusal-requires c κs = search needs
 
-returns-2 : tie.Need-returns-2
-returns-2 c =
+returns-3 : tie.Need-returns-3
+returns-3 c =
     let r = c .before .before .before in let e = c .before .enum-told .given .1 in
-    header-stops _ _ (r .before .if1 .left) (c .header-refusal .result)
+    header-stops _ _ _ (ok (r .before .before)) (r .before .if2 .left) (c .header-refusal .result)
     (answer-is headerAt (r .read-header .ensures) e ∙ ap refusedBy (sym (c .header-refusal .ensures ∙ ap headerRefusal e)))
 
 read-body-requires : tie.Need-read-body-requires
-read-body-requires c κs = let g = c .before .before in sym (answer-is headerAt (g .before .before .read-header .ensures) (g .read .given .1))
+read-body-requires c κs =
+    let g = c .before .before in let r = g .before .before in
+    (ok (r .before .before), sym (answer-is headerAt (r .read-header .ensures) (g .read .given .1)))
 
 same-length : tie.Need-same-length
 same-length c = search needs
 
-returns-3 : tie.Need-returns-3
-returns-3 c = search needs
+returns-4 : tie.Need-returns-4
+returns-4 c = search needs
 
 pub read-frame-spec : {M : Type 1} → statement M
 read-frame-spec =
     tie.close
     (tie.spec
+    is-possible-requires
     returns
+    returns-2
     read-header-requires
     enum-known-read
     enum-told
     header-refusal-requires
-    returns-2
+    returns-3
     read-body-requires
     same-length
-    returns-3)
+    returns-4)

@@ -37,19 +37,19 @@ enum-known-answer : tie.Need-enum-known-answer
 enum-known-answer c = search needs
 
 -- what `read_frame` promises for the bytes from the place on
-read-is : (c : tie.After-read-frame) → Reads (read (drop (start c .args .place) (start c .args .s .now)) (start c .args .samples .now)) (c .read-frame .result) (c .read-frame .last .1 .0)
+read-is : (c : tie.After-read-frame) → Reads (read (start c .args .set) (drop (start c .args .place) (start c .args .s .now)) (start c .args .samples .now)) (c .read-frame .result) (c .read-frame .last .1 .1 .0)
 unfolding start
 read-is c =
     let a = start c .args in
     let from = c .before .before .before .lesser in
-    subst (λ (l : List ℕ). Reads (read l (a .samples .now)) (c .read-frame .result) (c .read-frame .last .1 .0)) (part-from-place (a .s .now) (a .place) (from .result) (from .ensures)) (c .read-frame .ensures)
+    subst (λ (l : List ℕ). Reads (read (a .set) l (a .samples .now)) (c .read-frame .result) (c .read-frame .last .1 .1 .0)) (part-from-place (a .s .now) (a .place) (from .result) (from .ensures)) (c .read-frame .ensures)
 
-add-t14 : tie.Need-add-t14
+add-t15 : tie.Need-add-t15
 unfolding start
-add-t14 c =
+add-t15 c =
     let read = c .before .before .before .before .before in
     let a = start read .args in
-    let t = next-in-range (a .s .now) (a .place) (a .samples .now) (read-is read) (c .before .before .answer .given .1) in
+    let t = next-in-range (a .s .now) (a .place) (a .set) (a .samples .now) (read-is read) (c .before .before .answer .given .1) in
     omega arith
 
 enum-told : tie.Need-enum-told
@@ -63,7 +63,7 @@ unfolding start
 returns c =
     let read = c .before .before .before .before .before in
     let a = start read .args in
-    frame-steps (a .s .now) (a .place) (a .samples .now) (read-is read) (c .before .before .answer .given .1)
+    frame-steps (a .s .now) (a .place) (a .set) (a .samples .now) (read-is read) (c .before .before .answer .given .1)
 
 same-length-2 : tie.Need-same-length-2
 same-length-2 c = search needs
@@ -73,7 +73,7 @@ unfolding start
 returns-2 c =
     let read = c .before .before .before in
     let a = start read .args in
-    refused-steps (a .s .now) (a .place) (a .samples .now) (read-is read) (c .enum-told .given .1)
+    refused-steps (a .s .now) (a .place) (a .set) (a .samples .now) (read-is read) (c .enum-told .given .1)
 
 pub read-next-spec : {M : Type 1} → statement M
 read-next-spec =
@@ -85,7 +85,7 @@ read-next-spec =
     part-read-frame-end
     read-frame-requires
     enum-known-answer
-    add-t14
+    add-t15
     enum-told
     same-length
     returns

@@ -1,0 +1,50 @@
+-- What a stream says about itself by its first header: settings that a stream can have, which more bytes do not change
+-- once the header is decided. Assumes nothing.
+use Prim.Native.Nat.{ℕ, _≤_}
+use native.Mathlib.Omega.{arith}
+use mathlib.Core.Bool.{true}
+use mathlib.Core.Path.{_≡_, refl, ap, sym, _∙_, subst}
+use mathlib.Core.List.{List, _++_}
+use borrow.Author.Tests.{le-leb, lt-ltb}
+use Rattle.reading.specs.declared.Place.{Place}
+use Rattle.reading.specs.Places.{At, gotAt, refusedAt, shortAt, runAt, placeOf}
+use Rattle.reading.proofs.BytePrefixes.{runAt-append}
+use Rattle.reading.proofs.Postconditions.{Meets, holds-at}
+use Rattle.rfc9639.specs.declared.FrameHeader.{FrameHeader}
+use Rattle.rfc9639.specs.declared.Settings.{Settings}
+use Rattle.rfc9639.specs.declared.StreamBlock.{StreamBlock}
+use Rattle.rfc9639.specs.Header.{header}
+use Rattle.rfc9639.specs.Stream.{inRange, possible}
+use Rattle.rfc9639.specs.FrameByFrame.{blockIn, streamSettings}
+use Rattle.demands.proofs.Headers.{Early, Sound, header-holds}
+
+module _ (s : List ℕ) where
+  pub header-settings : {h : FrameHeader} {p : Place} → runAt header s (placeOf 0) ≡ gotAt h p → streamSettings s ≡ record { block = StreamBlock.Known (h .size) }
+  unfolding streamSettings blockIn
+  header-settings e = ap (λ x. record { block = blockIn x }) e
+
+  pub refused-settings : {n : ℕ} → runAt header s (placeOf 0) ≡ refusedAt n → streamSettings s ≡ record { block = StreamBlock.Unknown }
+  unfolding streamSettings blockIn
+  refused-settings e = ap (λ x. record { block = blockIn x }) e
+
+  pub short-settings : runAt header s (placeOf 0) ≡ shortAt → streamSettings s ≡ record { block = StreamBlock.Unknown }
+  unfolding streamSettings blockIn
+  short-settings e = ap (λ x. record { block = blockIn x }) e
+
+  pub header-sound : {h : FrameHeader} {p : Place} → runAt header s (placeOf 0) ≡ gotAt h p → Sound h
+  header-sound e = subst (Meets Early Sound) e (holds-at Early Sound s (placeOf 0) header-holds)
+
+  -- a stream can have them
+  pub stream-possible : possible (streamSettings s) ≡ true
+  unfolding possible streamSettings blockIn inRange
+  stream-possible = go (runAt header s (placeOf 0)) refl
+    where
+      go : (x : At FrameHeader) → runAt header s (placeOf 0) ≡ x → inRange (blockIn x) ≡ true
+      go (gotAt h p) e = rw (lt-ltb 0 (h .size) (header-sound e .some), le-leb (h .size) 65535 (header-sound e .size)) refl
+      go (refusedAt n) e = refl
+      go shortAt e = refl
+
+  -- a header that is there, or refused, stays so
+  pub settings-stay : (runAt header s (placeOf 0) ≡ shortAt → ⊥) → (t : List ℕ) → streamSettings (s ++ t) ≡ streamSettings s
+  unfolding streamSettings
+  settings-stay known t = ap (λ x. record { block = blockIn x }) (runAt-append header s (placeOf 0) t known)
