@@ -15,10 +15,7 @@ ghost use Rattle.thriftacorn.specs.Private.{ReportedAs};
 fn first_flag(f: FirstSample) -> u32
     ensures { λ r. ⌜ r ≡ firstKnown f ⌝ }
 {
-    match f {
-        FirstSample::Unknown => 0,
-        FirstSample::Known(_) => 1,
-    }
+    if let FirstSample::Known(_) = f { 1 } else { 0 }
 }
 
 // The number of a first sample, 0 if it is unknown.
