@@ -3,10 +3,12 @@
 use claxon::frame::FrameReader;
 use std::hint::black_box;
 use std::io::Cursor;
-use thriftacorn::{read_frame, ROOM};
+use thriftacorn::{read_frame, ReadSettings, ROOM};
 
 /// A reader of single frames.
 pub trait Reader {
+    /// Takes what it needs from the beginning of a stream's frames. That is done once, and no frame's time has it.
+    fn open(&mut self, bytes: &[u8]);
     /// Reads the frame at the start of these bytes, and passes its samples to black_box, so that the compiler removes
     /// none of the reading. Returns its length; `None` if there is no frame.
     fn read(&mut self, bytes: &[u8]) -> Option<usize>;
@@ -15,19 +17,24 @@ pub trait Reader {
 }
 
 pub struct Ours {
+    settings: ReadSettings,
     buffer: Vec<i32>,
     used: usize,
 }
 
 impl Ours {
     pub fn new() -> Ours {
-        Ours { buffer: vec![0; ROOM], used: 0 }
+        Ours { settings: ReadSettings::new(), buffer: vec![0; ROOM], used: 0 }
     }
 }
 
 impl Reader for Ours {
+    fn open(&mut self, bytes: &[u8]) {
+        self.settings = ReadSettings::of_stream(bytes);
+    }
+
     fn read(&mut self, bytes: &[u8]) -> Option<usize> {
-        let frame = read_frame(bytes, &mut self.buffer).ok()?;
+        let frame = read_frame(bytes, &self.settings, &mut self.buffer).ok()?;
         self.used = frame.samples();
         black_box(self.samples());
         Some(frame.consumed)
@@ -49,6 +56,8 @@ impl Claxon {
 }
 
 impl Reader for Claxon {
+    fn open(&mut self, _: &[u8]) {}
+
     fn read(&mut self, bytes: &[u8]) -> Option<usize> {
         let mut reader = FrameReader::new(Cursor::new(bytes));
         let block = reader.read_next_or_eof(std::mem::take(&mut self.buffer)).ok()??;

@@ -22,6 +22,7 @@ const WHILE: Duration = Duration::from_secs(60);
 /// Passes on each frame's samples and the range of its bytes, in order. Returns how many bytes were read.
 fn walk(bytes: &[u8], mut reader: impl Reader, mut with: impl FnMut(&[i32], Range<usize>)) -> usize {
     let mut place = 0;
+    reader.open(bytes);
     while let Some(length) = reader.read(&bytes[place..]) {
         with(reader.samples(), place..place + length);
         place += length;
@@ -64,6 +65,7 @@ impl<'a> Input<'a> {
     /// pass to pass. libFLAC, which goes through the whole stream by itself, is always last.
     fn pass(&mut self, ours: &mut Ours, claxon: &mut Claxon, ours_first: bool) {
         let mut libflac = LibFlac::open(self.stream);
+        ours.open(self.bytes);
         for (start, [best, other, third]) in &mut self.frames {
             let rest = &self.bytes[*start..];
             if ours_first {
@@ -185,6 +187,7 @@ fn hours(name: &str, file: &str, hours: usize) {
     let bytes = flac::frames_of(&stream);
     let (mut ours, mut claxon, mut times, mut samples) = (Ours::new(), Claxon::new(), [Duration::ZERO; 2], 0);
     let (mut round, mut first) = (0, String::new());
+    ours.open(bytes);
     while samples < hours * 3600 * RATE * CHANNELS {
         let mut place = 0;
         while place < bytes.len() {

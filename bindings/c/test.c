@@ -1,6 +1,7 @@
 /*
  * The header's functions, called from C and from C++: RFC 9639's first frame, part of a frame that contains it, frame
- * after frame, writing and reading back, access to a block, and every value stored through a pointer by a refusal.
+ * after frame, what the settings for reading change, writing and reading back, access to a block, and every value
+ * stored through a pointer by a refusal.
  */
 #include <thriftacorn.h>
 
@@ -41,6 +42,18 @@ static void make_holding(uint8_t frame[HOLDING])
     frame[199] = 0x17;
     frame[200] = 0x03;
 }
+
+/*
+ * The two frames of RFC 9639's second example (appendix D.2), a stream with fixed blocking: 16 samples in two channels,
+ * and the last 3, whose frame number is 1.
+ */
+#define SHORT_FROM 68
+static const uint8_t stream[91] = {
+    0xFF, 0xF8, 0x69, 0x98, 0x00, 0x0F, 0x99, 0x12, 0x08, 0x67, 0x01, 0x62, 0x3D, 0x14, 0x42, 0x99, 0x8F, 0x5D, 0xF7,
+    0x0D, 0x6F, 0xE0, 0x0C, 0x17, 0xCA, 0xEB, 0x21, 0x00, 0x0E, 0xE7, 0xA7, 0x7A, 0x24, 0xA1, 0x59, 0x0C, 0x12, 0x17,
+    0xB6, 0x03, 0x09, 0x7B, 0x78, 0x4F, 0xAA, 0x9A, 0x33, 0xD2, 0x85, 0xE0, 0x70, 0xAD, 0x5B, 0x1B, 0x48, 0x51, 0xB4,
+    0x01, 0x0D, 0x99, 0xD2, 0xCD, 0x1A, 0x68, 0xF1, 0xE6, 0xB8, 0x10, 0xFF, 0xF8, 0x69, 0x18, 0x01, 0x02, 0xA4, 0x02,
+    0xC3, 0x82, 0xC4, 0x0B, 0xC1, 0x4A, 0x03, 0xEE, 0x48, 0xDD, 0x03, 0xB6, 0x7C, 0x13, 0x30};
 
 static void fill(int32_t *samples, size_t count, int32_t value)
 {
@@ -127,6 +140,152 @@ static void test_next(void)
     place = SIZE_MAX;
     CHECK(thriftacorn_read_next(row, sizeof row, &place, samples, 256, &frame) == THRIFTACORN_NOTHING_LEFT);
     CHECK(place == SIZE_MAX && is_nothing(&frame));
+}
+
+/* A stream's last block, read with the size of its blocks known and unknown, and without settings. */
+static void test_short(void)
+{
+    const uint8_t *last = stream + SHORT_FROM;
+    const size_t length = sizeof stream - SHORT_FROM;
+    thriftacorn_read_settings settings = THRIFTACORN_READ_SETTINGS_INIT;
+    thriftacorn_frame frame;
+    int32_t samples[32];
+    size_t place = 0;
+    CHECK(thriftacorn_read_frame_with(last, length, &settings, samples, 6, &frame) == THRIFTACORN_OK);
+    CHECK(frame.first_sample_known == 0 && frame.first_sample == 0);
+    CHECK(frame.consumed == 23 && frame.channels == 2 && frame.block_size == 3 && frame.bits == 16);
+    CHECK(samples[0] == -15486 && samples[5] == -9410);
+    settings.block = 1; /* passed over: it is not given */
+    CHECK(thriftacorn_read_frame_with(last, length, &settings, samples, 6, &frame) == THRIFTACORN_OK);
+    CHECK(frame.first_sample_known == 0 && frame.first_sample == 0);
+    CHECK(thriftacorn_stream_settings(stream, sizeof stream, &settings) == THRIFTACORN_OK);
+    CHECK(settings.block_given == 1 && settings.block == 16);
+    CHECK(thriftacorn_read_frame_with(last, length, &settings, samples, 6, &frame) == THRIFTACORN_OK);
+    CHECK(frame.first_sample_known == 1 && frame.first_sample == 16 && frame.block_size == 3);
+    CHECK(thriftacorn_read_next_with(stream, sizeof stream, &place, &settings, samples, 32, &frame) == THRIFTACORN_OK);
+    CHECK(place == SHORT_FROM && frame.consumed == SHORT_FROM && frame.first_sample == 0);
+    CHECK(frame.first_sample_known == 1 && frame.block_size == 16 && samples[0] == 10372 && samples[31] == -8653);
+    CHECK(thriftacorn_read_next_with(stream, sizeof stream, &place, &settings, samples, 32, &frame) == THRIFTACORN_OK);
+    CHECK(place == sizeof stream && frame.consumed == 23 && frame.first_sample == 16 && samples[0] == -15486);
+    CHECK(thriftacorn_read_next_with(stream, sizeof stream, &place, &settings, samples, 32, &frame) ==
+          THRIFTACORN_NOTHING_LEFT);
+    CHECK(place == sizeof stream && is_nothing(&frame));
+    /* Without settings it is placed by the size of its own block. */
+    CHECK(thriftacorn_read_frame(last, length, samples, 6, &frame) == THRIFTACORN_OK && frame.first_sample == 3);
+    place = SHORT_FROM;
+    CHECK(thriftacorn_read_next(stream, sizeof stream, &place, samples, 6, &frame) == THRIFTACORN_OK);
+    CHECK(frame.first_sample == 3 && frame.first_sample_known == 1);
+}
+
+/* A block larger than the stream's: refused with fixed blocking, after the header, before the room. */
+static void test_larger(void)
+{
+    /* Two samples, with the bits left to the stream's header. */
+    static const uint8_t without_bits[7] = {0xFF, 0xF8, 0x60, 0x00, 0x00, 0x01, 0xED};
+    const uint8_t *last = stream + SHORT_FROM;
+    thriftacorn_read_settings settings = THRIFTACORN_READ_SETTINGS_INIT;
+    thriftacorn_write_settings variable = THRIFTACORN_WRITE_SETTINGS_INIT;
+    thriftacorn_frame frame;
+    int32_t samples[6] = {7, 7, 7, 7, 7, 7};
+    uint8_t out[32];
+    size_t length, room, place = SHORT_FROM;
+    settings.block_given = 1;
+    settings.block = 2;
+    for (length = 0; length <= 23; length++) {
+        CHECK(thriftacorn_read_frame_with(last, length, &settings, samples, 6, &frame) ==
+              (length == 0  ? THRIFTACORN_NOTHING_LEFT
+               : length < 7 ? THRIFTACORN_CUT_SHORT
+                            : THRIFTACORN_BAD_SHAPE));
+        CHECK(is_nothing(&frame) && samples[0] == 7 && samples[5] == 7);
+    }
+    CHECK(thriftacorn_read_next_with(stream, sizeof stream, &place, &settings, samples, 6, &frame) ==
+          THRIFTACORN_BAD_SHAPE);
+    CHECK(place == SHORT_FROM && is_nothing(&frame) && samples[0] == 7);
+    for (room = 0; room < 6; room++) {
+        settings.block = 2;
+        CHECK(thriftacorn_read_frame_with(last, 23, &settings, samples, room, &frame) == THRIFTACORN_BAD_SHAPE);
+        settings.block = 3;
+        CHECK(thriftacorn_read_frame_with(last, 23, &settings, samples, room, &frame) == THRIFTACORN_NO_ROOM);
+    }
+    CHECK(samples[0] == 7 && samples[5] == 7);
+    settings.block = 1;
+    CHECK(thriftacorn_read_frame_with(without_bits, 7, &settings, samples, 6, &frame) == THRIFTACORN_NOT_DONE);
+    variable.bits = 16;
+    variable.blocking = THRIFTACORN_VARIABLE;
+    variable.number = 40;
+    variable.block_size = 6;
+    CHECK(thriftacorn_write_frame(samples, 6, &variable, out, sizeof out, &length) == THRIFTACORN_OK);
+    CHECK(thriftacorn_read_frame_with(out, length, &settings, samples, 6, &frame) == THRIFTACORN_OK);
+    CHECK(frame.first_sample_known == 1 && frame.first_sample == 40 && frame.block_size == 6);
+    settings.block_given = 0;
+    CHECK(thriftacorn_read_frame_with(out, length, &settings, samples, 6, &frame) == THRIFTACORN_OK);
+    CHECK(frame.first_sample_known == 1 && frame.first_sample == 40);
+}
+
+/* Settings for reading that are refused, before a byte is read. */
+static void test_read_settings(void)
+{
+    static const size_t sizes[5] = {0, 65536, 65537, SIZE_MAX / 2 + 2, SIZE_MAX};
+    const thriftacorn_read_settings unknown = THRIFTACORN_READ_SETTINGS_INIT;
+    thriftacorn_read_settings settings = unknown;
+    thriftacorn_frame frame;
+    int32_t samples[2] = {7, 7};
+    size_t i, length, place = 0;
+    CHECK(thriftacorn_read_frame_with(NULL, 0, &settings, NULL, 0, &frame) == THRIFTACORN_NOTHING_LEFT);
+    settings.block_given = 1;
+    for (i = 0; i < 5; i++) {
+        settings.block = sizes[i];
+        for (length = 0; length <= sizeof whole; length++) {
+            memset(&frame, 0xFF, sizeof frame);
+            CHECK(thriftacorn_read_frame_with(whole, length, &settings, samples, 2, &frame) ==
+                  THRIFTACORN_BAD_ARGUMENT);
+            CHECK(is_nothing(&frame));
+        }
+        CHECK(thriftacorn_read_next_with(whole, 15, &place, &settings, samples, 2, &frame) ==
+              THRIFTACORN_BAD_ARGUMENT);
+        CHECK(place == 0 && is_nothing(&frame));
+    }
+    settings = unknown;
+    settings.block_given = 2;
+    settings.block = 1;
+    CHECK(thriftacorn_read_frame_with(whole, 15, &settings, samples, 2, &frame) == THRIFTACORN_BAD_ARGUMENT);
+    CHECK(thriftacorn_read_next_with(whole, 15, &place, &settings, samples, 2, &frame) == THRIFTACORN_BAD_ARGUMENT);
+    for (i = 0; i < 8; i++) {
+        settings = unknown;
+        settings.reserved[i] = UINT64_C(1) << 63;
+        CHECK(thriftacorn_read_frame_with(whole, 15, &settings, samples, 2, &frame) == THRIFTACORN_BAD_ARGUMENT);
+        CHECK(thriftacorn_read_next_with(whole, 15, &place, &settings, samples, 2, &frame) ==
+              THRIFTACORN_BAD_ARGUMENT);
+    }
+    settings = unknown;
+    settings.reserved_word = 1;
+    CHECK(thriftacorn_read_frame_with(whole, 15, &settings, samples, 2, &frame) == THRIFTACORN_BAD_ARGUMENT);
+    CHECK(place == 0 && is_nothing(&frame) && samples[0] == 7 && samples[1] == 7);
+    settings = unknown;
+    settings.block_given = 1;
+    for (settings.block = 1; settings.block <= 65535; settings.block += 65534) {
+        CHECK(thriftacorn_read_frame_with(whole, 15, &settings, samples, 2, &frame) == THRIFTACORN_OK);
+        CHECK(frame.first_sample_known == 1 && frame.first_sample == 0 && samples[1] == 10416);
+    }
+}
+
+/* What the beginning of a stream says of its blocks. */
+static void test_stream_settings(void)
+{
+    static const thriftacorn_read_settings unknown = THRIFTACORN_READ_SETTINGS_INIT;
+    thriftacorn_read_settings settings;
+    size_t length;
+    for (length = 0; length <= 23; length++) {
+        memset(&settings, 0xFF, sizeof settings);
+        CHECK(thriftacorn_stream_settings(stream + SHORT_FROM, length, &settings) == THRIFTACORN_OK);
+        CHECK(length < 7 ? memcmp(&settings, &unknown, sizeof unknown) == 0
+                         : settings.block_given == 1 && settings.block == 3 && settings.reserved_word == 0);
+    }
+    memset(&settings, 0xFF, sizeof settings);
+    CHECK(thriftacorn_stream_settings(NULL, 0, &settings) == THRIFTACORN_OK && settings.block_given == 0);
+    memset(&settings, 0xFF, sizeof settings);
+    CHECK(thriftacorn_stream_settings(NULL, 1, &settings) == THRIFTACORN_BAD_ARGUMENT);
+    CHECK(memcmp(&settings, &unknown, sizeof unknown) == 0);
 }
 
 static void test_write(void)
@@ -228,7 +387,7 @@ static void test_values(void)
 {
     size_t consumed = 99, channels = 99, size = 99, place = 1, start = 99, end = 99, length = 99;
     uint64_t first = 99;
-    uint32_t bits = 99;
+    uint32_t bits = 99, known = 99;
     int32_t samples[2] = {7, 7}, value = 99, left = 99, right = 99;
     uint8_t out[4] = {9, 9, 9, 9};
     CHECK(thriftacorn_read_frame_v1(whole, 15, samples, 1, &consumed, &first, &channels, &bits, &size) == 7);
@@ -237,6 +396,19 @@ static void test_values(void)
     first = bits = 99;
     CHECK(thriftacorn_read_next_v1(whole, 15, &place, samples, 2, &consumed, &first, &channels, &bits, &size) == 3);
     CHECK(consumed == 0 && first == 0 && channels == 0 && bits == 0 && size == 0 && place == 1);
+    consumed = channels = size = 99;
+    first = bits = known = 99;
+    CHECK(thriftacorn_read_frame_v2(whole, 15, 1, 1, samples, 1, &consumed, &known, &first, &channels, &bits,
+                                    &size) == 7);
+    CHECK(consumed == 0 && known == 0 && first == 0 && channels == 0 && bits == 0 && size == 0);
+    consumed = channels = size = 99;
+    first = bits = known = 99;
+    CHECK(thriftacorn_read_next_v2(whole, 15, &place, 2, 1, samples, 2, &consumed, &known, &first, &channels, &bits,
+                                   &size) == 11);
+    CHECK(consumed == 0 && known == 0 && first == 0 && channels == 0 && bits == 0 && size == 0 && place == 1);
+    CHECK(thriftacorn_stream_block_v1(whole, 6, &start) == 0 && start == 0);
+    CHECK(thriftacorn_stream_block_v1(whole, 7, &start) == 1 && start == 1);
+    start = 99;
     CHECK(thriftacorn_write_frame_v1(samples, 2, 0, 16, 0, 0, 2, out, 4, &length) == 13 && length == 0);
     CHECK(out[0] == 9 && out[3] == 9 && samples[0] == 7 && samples[1] == 7);
     CHECK(thriftacorn_channel_v1(samples, 2, 2, 1, 2, &start, &end) == 11 && start == 0 && end == 0);
@@ -249,6 +421,7 @@ static void test_values(void)
 static void test_null(void)
 {
     thriftacorn_write_settings settings = THRIFTACORN_WRITE_SETTINGS_INIT;
+    const thriftacorn_read_settings unknown = THRIFTACORN_READ_SETTINGS_INIT;
     thriftacorn_frame frame = THRIFTACORN_FRAME_INIT;
     size_t place = 0, length = 99, start = 99, end = 99;
     int32_t value = 99, left = 99, right = 99;
@@ -258,6 +431,12 @@ static void test_null(void)
     CHECK(thriftacorn_read_frame(NULL, 15, NULL, 0, &frame) == THRIFTACORN_BAD_ARGUMENT);
     CHECK(thriftacorn_read_next(NULL, 0, &place, NULL, 0, &frame) == THRIFTACORN_NOTHING_LEFT && place == 0);
     CHECK(thriftacorn_read_next(NULL, 1, &place, NULL, 0, &frame) == THRIFTACORN_BAD_ARGUMENT && place == 0);
+    CHECK(thriftacorn_read_frame_with(whole, 15, &unknown, NULL, 2, &frame) == THRIFTACORN_BAD_ARGUMENT);
+    CHECK(thriftacorn_read_frame_with(NULL, 15, &unknown, NULL, 0, &frame) == THRIFTACORN_BAD_ARGUMENT);
+    CHECK(thriftacorn_read_frame_with(whole, 15, &unknown, NULL, 0, &frame) == THRIFTACORN_NO_ROOM);
+    CHECK(thriftacorn_read_next_with(NULL, 0, &place, &unknown, NULL, 0, &frame) == THRIFTACORN_NOTHING_LEFT);
+    CHECK(thriftacorn_read_next_with(NULL, 1, &place, &unknown, NULL, 0, &frame) == THRIFTACORN_BAD_ARGUMENT);
+    CHECK(place == 0);
     settings.bits = 16;
     settings.block_size = 1;
     CHECK(thriftacorn_write_frame(&value, 1, &settings, NULL, 0, &length) == THRIFTACORN_OUTPUT_ROOM && length == 0);
@@ -296,6 +475,8 @@ static void test_layout(void)
         CHECK(offsetof(thriftacorn_frame, first_sample) == 24 && offsetof(thriftacorn_frame, bits) == 36);
         CHECK(sizeof(thriftacorn_write_settings) == 96 && offsetof(thriftacorn_write_settings, reserved) == 32);
         CHECK(offsetof(thriftacorn_write_settings, number) == 16);
+        CHECK(sizeof(thriftacorn_read_settings) == 80 && offsetof(thriftacorn_read_settings, reserved) == 16);
+        CHECK(offsetof(thriftacorn_read_settings, block) == 8);
     }
 }
 
@@ -304,6 +485,10 @@ int main(void)
     test_whole();
     test_holding();
     test_next();
+    test_short();
+    test_larger();
+    test_read_settings();
+    test_stream_settings();
     test_write();
     test_settings();
     test_block();

@@ -10,11 +10,11 @@
  * for the next sync code: the sound in a frame can be any bytes, even those of a whole frame with both its check sums
  * right.
  *
- * What will not change. A function whose name ends in _v1 keeps its arguments and its meaning. So do the functions of
- * this header without it: settings for reading will come as a struct, with functions of their own. A new field of a
+ * What will not change. A function whose name ends in _v1 or _v2 keeps its arguments and its meaning. So do this
+ * header's functions without it: settings for reading came as a struct, with functions of their own. A new field of a
  * struct will take its space from `reserved`, so that the struct keeps its size, and zero in it will mean what is meant
- * today: designated initialisers and THRIFTACORN_WRITE_SETTINGS_INIT will compile as before and mean the same. An
- * answer keeps its number; more answers may be added.
+ * today: designated initialisers and the macros that end in _INIT will compile as before and mean the same. An answer
+ * keeps its number; more answers may be added.
  *
  * What a caller must ensure. Memory that is lent is valid for its whole length, and no two parts of it overlap. An
  * empty slice may be NULL; a slice that is NULL but not empty is answered 11. A pointer to a single value is not NULL.
@@ -25,7 +25,7 @@
 #include <stddef.h>
 #include <stdint.h>
 
-#define THRIFTACORN_VERSION "0.2.0"
+#define THRIFTACORN_VERSION "0.3.0"
 
 /* Room for every frame: eight channels of 65535 samples. */
 #define THRIFTACORN_ROOM 524280
@@ -64,13 +64,27 @@ typedef struct thriftacorn_frame {
     size_t consumed;             /* the bytes of the frame; the next one starts after them */
     size_t channels;             /* 1 to 8 */
     size_t block_size;           /* samples per channel, 1 to 65535 */
-    uint64_t first_sample;       /* the number of the block's first sample */
-    uint32_t first_sample_known; /* 1; 0 is reserved for settings under which a frame does not say */
+    uint64_t first_sample;       /* the number of the block's first sample in its channel; 0 if it is not known */
+    uint32_t first_sample_known; /* 1, or 0 if that takes the size of the stream's blocks, which is unknown */
     uint32_t bits;               /* bits per sample: 8, 12, 16, 20 or 24 */
     uint64_t reserved[8];
 } thriftacorn_frame;
 
 #define THRIFTACORN_FRAME_INIT {0, 0, 0, 0, 0, 0, {0, 0, 0, 0, 0, 0, 0, 0}}
+
+/*
+ * The settings for reading a frame: what is known of its stream. With fixed blocking a frame has only its own number,
+ * which counts blocks of the stream's size; a stream's last block may be smaller. Other values than those named here
+ * are refused with 11. Reserved fields are zero; anything else in them is refused with 11 too.
+ */
+typedef struct thriftacorn_read_settings {
+    uint32_t block_given; /* 1 if `block` is the size of the stream's blocks, 0 if that is unknown */
+    uint32_t reserved_word;
+    size_t block; /* samples per channel, 1 to 65535; passed over if it is not given */
+    uint64_t reserved[8];
+} thriftacorn_read_settings;
+
+#define THRIFTACORN_READ_SETTINGS_INIT {0, 0, 0, {0, 0, 0, 0, 0, 0, 0, 0}}
 
 /* Channel codes: 0 to 7 mean 1 to 8 independent channels; these mean two, with their difference stored for one. */
 #define THRIFTACORN_LEFT_SIDE 8
@@ -103,6 +117,14 @@ uint8_t thriftacorn_read_frame_v1(const uint8_t *bytes, size_t bytes_len, int32_
 uint8_t thriftacorn_read_next_v1(const uint8_t *bytes, size_t bytes_len, size_t *place, int32_t *samples,
                                  size_t samples_len, size_t *consumed, uint64_t *first, size_t *channels,
                                  uint32_t *bits, size_t *size);
+uint8_t thriftacorn_read_frame_v2(const uint8_t *bytes, size_t bytes_len, uint32_t block_given, size_t block,
+                                  int32_t *samples, size_t samples_len, size_t *consumed, uint32_t *first_known,
+                                  uint64_t *first, size_t *channels, uint32_t *bits, size_t *size);
+uint8_t thriftacorn_read_next_v2(const uint8_t *bytes, size_t bytes_len, size_t *place, uint32_t block_given,
+                                 size_t block, int32_t *samples, size_t samples_len, size_t *consumed,
+                                 uint32_t *first_known, uint64_t *first, size_t *channels, uint32_t *bits,
+                                 size_t *size);
+uint32_t thriftacorn_stream_block_v1(const uint8_t *bytes, size_t bytes_len, size_t *block);
 uint8_t thriftacorn_write_frame_v1(const int32_t *samples, size_t samples_len, uint32_t channels, uint32_t bits,
                                    uint32_t blocking, uint64_t number, size_t size, uint8_t *out, size_t out_len,
                                    size_t *length);
@@ -118,7 +140,10 @@ uint8_t thriftacorn_pair_v1(const int32_t *samples, size_t samples_len, size_t c
 }
 #endif
 
-/* What an answer asks of the caller. The writer's refusals, 11 to 13, are final; the reader never gives them. */
+/*
+ * What an answer asks of the caller. 11 to 13 are final: other settings, samples or output are needed. Reading gives 11
+ * for settings that no stream has and for a slice that is NULL but not empty, and never 12 or 13.
+ */
 static inline enum thriftacorn_need thriftacorn_needs(uint8_t answer)
 {
     switch (answer) {
@@ -179,9 +204,12 @@ static inline int thriftacorn_is_slice(const void *pointer, size_t length)
 
 /*
  * Reads the frame at the start of `bytes` into `samples`, channel after channel. Bytes after the frame do not matter.
- * Let N be channels times block size. After 0 the first N are the samples. After 1, 3, 5, 6 and 7 `samples` is
+ * Let N be channels times block size. After 0 the first N are the samples. After 1, 3, 5, 6, 7 and 11 `samples` is
  * untouched. After 10 the first N are zero. After 2, 4, 8 and 9 it is untouched if the first subframe's first bit was
  * not read; otherwise the first N are zero. The others are always untouched.
+ *
+ * The number of the first sample is, with fixed blocking, the frame's number times the size of its own block. That
+ * places a stream's shorter last block too early: thriftacorn_read_frame_with() does not.
  */
 static inline uint8_t thriftacorn_read_frame(const uint8_t *bytes, size_t bytes_len, int32_t *samples,
                                              size_t samples_len, thriftacorn_frame *frame)
@@ -221,6 +249,82 @@ static inline uint8_t thriftacorn_read_next(const uint8_t *bytes, size_t bytes_l
                                       &frame->first_sample, &frame->channels, &frame->bits, &frame->block_size);
     frame->first_sample_known = answer == THRIFTACORN_OK;
     return answer;
+}
+
+/* Whether all reserved fields are zero. */
+static inline int thriftacorn_is_known_reading(const thriftacorn_read_settings *settings)
+{
+    uint64_t all = settings->reserved_word;
+    size_t i;
+    for (i = 0; i < sizeof settings->reserved / sizeof settings->reserved[0]; i++) {
+        all |= settings->reserved[i];
+    }
+    return all == 0;
+}
+
+/*
+ * What the beginning of a stream says: the size of its blocks is that of the first, whatever its blocking. It takes the
+ * frame's header, not the rest of the frame. All of *settings is set; block_given is 0 if the bytes do not start with a
+ * header that is whole and right. The answer is 0, or 11 for a slice that is NULL but not empty.
+ */
+static inline uint8_t thriftacorn_stream_settings(const uint8_t *bytes, size_t bytes_len,
+                                                  thriftacorn_read_settings *settings)
+{
+    const uint8_t no_byte = 0;
+    const thriftacorn_read_settings unknown = THRIFTACORN_READ_SETTINGS_INIT;
+    *settings = unknown;
+    if (!thriftacorn_is_slice(bytes, bytes_len)) {
+        return THRIFTACORN_BAD_ARGUMENT;
+    }
+    settings->block_given = thriftacorn_stream_block_v1(bytes != NULL ? bytes : &no_byte, bytes_len, &settings->block);
+    return THRIFTACORN_OK;
+}
+
+/*
+ * thriftacorn_read_frame() with settings. These are checked before a byte is read: 11, on empty input too. If the size
+ * of the stream's blocks is given, then with fixed blocking the number of the first sample is that size times the
+ * frame's number, and a block that is larger is refused with 9, after the header and before the room is looked at, with
+ * `samples` untouched. If it is unknown, no first sample is known with fixed blocking. With variable blocking the
+ * header has the number of the first sample, whatever is given, and the block may have any size.
+ */
+static inline uint8_t thriftacorn_read_frame_with(const uint8_t *bytes, size_t bytes_len,
+                                                  const thriftacorn_read_settings *settings, int32_t *samples,
+                                                  size_t samples_len, thriftacorn_frame *frame)
+{
+    const uint8_t no_byte = 0;
+    int32_t no_sample = 0;
+    const thriftacorn_frame nothing = THRIFTACORN_FRAME_INIT;
+    *frame = nothing;
+    if (!thriftacorn_is_slice(bytes, bytes_len) || !thriftacorn_is_slice(samples, samples_len) ||
+        !thriftacorn_is_known_reading(settings)) {
+        return THRIFTACORN_BAD_ARGUMENT;
+    }
+    return thriftacorn_read_frame_v2(bytes != NULL ? bytes : &no_byte, bytes_len, settings->block_given,
+                                     settings->block, samples != NULL ? samples : &no_sample, samples_len,
+                                     &frame->consumed, &frame->first_sample_known, &frame->first_sample,
+                                     &frame->channels, &frame->bits, &frame->block_size);
+}
+
+/*
+ * The same for the frame at *place, as thriftacorn_read_next(). Take the settings once, at the stream's first frame,
+ * and use them for all: thriftacorn_stream_settings() at another place would give that frame's own size.
+ */
+static inline uint8_t thriftacorn_read_next_with(const uint8_t *bytes, size_t bytes_len, size_t *place,
+                                                 const thriftacorn_read_settings *settings, int32_t *samples,
+                                                 size_t samples_len, thriftacorn_frame *frame)
+{
+    const uint8_t no_byte = 0;
+    int32_t no_sample = 0;
+    const thriftacorn_frame nothing = THRIFTACORN_FRAME_INIT;
+    *frame = nothing;
+    if (!thriftacorn_is_slice(bytes, bytes_len) || !thriftacorn_is_slice(samples, samples_len) ||
+        !thriftacorn_is_known_reading(settings)) {
+        return THRIFTACORN_BAD_ARGUMENT;
+    }
+    return thriftacorn_read_next_v2(bytes != NULL ? bytes : &no_byte, bytes_len, place, settings->block_given,
+                                    settings->block, samples != NULL ? samples : &no_sample, samples_len,
+                                    &frame->consumed, &frame->first_sample_known, &frame->first_sample,
+                                    &frame->channels, &frame->bits, &frame->block_size);
 }
 
 /* Whether all reserved fields are zero. */

@@ -2,7 +2,7 @@
 use std::io::Cursor;
 use std::panic::{catch_unwind, AssertUnwindSafe};
 pub use thriftacorn::ROOM;
-use thriftacorn::{read_frame, Frame, Refusal};
+use thriftacorn::{read_frame, Frame, ReadSettings, Refusal};
 
 /// The sample that the buffer holds wherever no reader has written.
 const FILL: i32 = 0x5A5A_5A5A;
@@ -11,7 +11,8 @@ const FILL: i32 = 0x5A5A_5A5A;
 #[derive(Clone, Copy, Debug, PartialEq, Eq)]
 pub struct Report {
     pub consumed: usize,
-    pub first_sample: u64,
+    /// The number of the first sample. claxon always has one.
+    pub first: Option<u64>,
     pub channels: usize,
     pub bits: u32,
     pub block_size: usize,
@@ -19,9 +20,8 @@ pub struct Report {
 
 impl From<Frame> for Report {
     fn from(frame: Frame) -> Report {
-        let first_sample = frame.first_sample.expect("a frame tells its first sample");
-        let Frame { consumed, channels, bits, block_size, .. } = frame;
-        Report { consumed, first_sample, channels, bits, block_size }
+        let Frame { consumed, first, channels, bits, block_size, .. } = frame;
+        Report { consumed, first, channels, bits, block_size }
     }
 }
 
@@ -59,11 +59,11 @@ impl Ours {
         Ours { buffer: vec![FILL; ROOM + 1], used: 0 }
     }
 
-    /// Reads the frame at the start of these bytes, with this much room.
-    pub fn read(&mut self, bytes: &[u8], room: usize) -> Answer {
+    /// Reads the frame at the start of these bytes, with these settings and this much room.
+    pub fn read(&mut self, bytes: &[u8], settings: &ReadSettings, room: usize) -> Answer {
         self.buffer[..self.used].fill(FILL);
         self.used = 0;
-        match read_frame(bytes, &mut self.buffer[..room]) {
+        match read_frame(bytes, settings, &mut self.buffer[..room]) {
             Ok(frame) => {
                 self.used = frame.samples();
                 Answer::Frame(frame.into())
@@ -84,18 +84,23 @@ impl Ours {
     /// CRC-16, and untouched after the part that was written.
     pub fn is_in_order(&self, answer: Answer) -> bool {
         let front = match answer {
-            Answer::Refused(1 | 3 | 5 | 6 | 7) => self.used == 0,
+            Answer::Refused(1 | 3 | 5 | 6 | 7 | 11) => self.used == 0,
             Answer::Refused(10) => self.used > 0,
             _ => true,
         };
         front && self.buffer[self.used] == FILL
+    }
+
+    /// Whether the front of the buffer is untouched.
+    pub fn is_untouched(&self) -> bool {
+        self.buffer[..64].iter().all(|sample| *sample == FILL)
     }
 }
 
 /// What claxon said of one frame, the same for both builds of it.
 enum Said {
     Nothing,
-    Block { samples: Vec<i32>, first_sample: u64, channels: u32, block_size: u32 },
+    Block { samples: Vec<i32>, first: u64, channels: u32, block_size: u32 },
     Short,
     Unsupported(&'static str),
     Refused(&'static str),
@@ -107,8 +112,8 @@ macro_rules! ask {
         match $claxon::frame::FrameReader::new($cursor).read_next_or_eof($buffer) {
             Ok(None) => Said::Nothing,
             Ok(Some(block)) => {
-                let (first_sample, channels, block_size) = (block.time(), block.channels(), block.duration());
-                Said::Block { samples: block.into_buffer(), first_sample, channels, block_size }
+                let (first, channels, block_size) = (block.time(), block.channels(), block.duration());
+                Said::Block { samples: block.into_buffer(), first, channels, block_size }
             }
             Err($claxon::Error::IoError(_)) => Said::Short,
             Err($claxon::Error::Unsupported(why)) => Said::Unsupported(why),
@@ -158,11 +163,11 @@ impl<'a> Claxon<'a> {
             Said::Unsupported("unencoded binary is not yet implemented") => Answer::Escaped,
             Said::Unsupported(_) => Answer::Refused(8),
             Said::Refused(message) => number_of(message, bytes),
-            Said::Block { samples, first_sample, channels, block_size } => {
+            Said::Block { samples, first, channels, block_size } => {
                 self.samples = samples;
                 Answer::Frame(Report {
                     consumed: self.cursor.position() as usize - self.start,
-                    first_sample,
+                    first: Some(first),
                     channels: channels as usize,
                     bits: [0, 8, 12, 0, 16, 20, 24, 0][usize::from(bytes[3] >> 1 & 7)],
                     block_size: block_size as usize,

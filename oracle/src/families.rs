@@ -1,6 +1,6 @@
 //! The families of random inputs. Each unit draws one frame or a few, changes them, and has the judge read the result.
-use crate::fault::FAULTS;
-use crate::frame::{mend, write_frame, Sizes, Taste, Written};
+use crate::fault::{Fault, FAULTS};
+use crate::frame::{is_in_header, mend, write_frame, Sizes, Taste, Written};
 use crate::judge::Judge;
 use crate::pen::Pen;
 use common::draw::Draw;
@@ -13,7 +13,7 @@ pub struct Family {
     pub unit: fn(&mut Judge, usize, &mut Draw, &mut Pen),
 }
 
-pub const FAMILIES: [Family; 12] = [
+pub const FAMILIES: [Family; 15] = [
     Family { name: "built", units: 150, unit: built },
     Family { name: "built-tiny", units: 300, unit: built_tiny },
     Family { name: "extremes", units: 300, unit: extremes },
@@ -25,10 +25,14 @@ pub const FAMILIES: [Family; 12] = [
     Family { name: "flips-mended", units: 20, unit: flips_mended },
     Family { name: "noise", units: 60, unit: noise },
     Family { name: "rows", units: 20, unit: rows },
+    Family { name: "rows-short", units: 10, unit: rows_short },
+    Family { name: "rows-larger", units: 20, unit: rows_larger },
+    Family { name: "rows-refused", units: 10, unit: rows_refused },
     Family { name: "room", units: 20, unit: room },
 ];
 
-const MIXED: Taste = Taste { sizes: Sizes::Mixed, fault: None, extreme: false, edges: false, escaped: false };
+const MIXED: Taste =
+    Taste { sizes: Sizes::Mixed, variable: None, fault: None, extreme: false, edges: false, escaped: false };
 const TINY: Taste = Taste { sizes: Sizes::Tiny, ..MIXED };
 
 /// One frame, with a pen of its own.
@@ -165,12 +169,13 @@ fn noise(judge: &mut Judge, family: usize, draw: &mut Draw, pen: &mut Pen) {
     judge.one(family, &pen.bytes);
 }
 
-/// Several frames in a row, then rubbish.
+/// Several frames in a row, none with a larger block than the first, then rubbish.
 fn rows(judge: &mut Judge, family: usize, draw: &mut Draw, pen: &mut Pen) {
-    pen.clear();
-    for _ in 0..draw.from(2, 6) {
+    let escaped = draw.once_in(8);
+    let first = single(draw, pen, Taste { escaped, ..TINY });
+    for _ in 0..draw.from(1, 5) {
         let escaped = draw.once_in(8);
-        write_frame(pen, draw, Taste { escaped, ..TINY });
+        write_frame(pen, draw, Taste { sizes: Sizes::UpTo(first.size), escaped, ..TINY });
     }
     let end = pen.bytes.len();
     match draw.below(5) {
@@ -185,6 +190,66 @@ fn rows(judge: &mut Judge, family: usize, draw: &mut Draw, pen: &mut Pen) {
         _ => (0..draw.below(20)).for_each(|_| pen.bytes.push(draw.next() as u8)),
     }
     judge.row(family, &pen.bytes);
+}
+
+/// Adds so many frames of just this size.
+fn blocks(draw: &mut Draw, pen: &mut Pen, count: u32, size: u32, variable: Option<bool>) {
+    for _ in 0..count {
+        let escaped = draw.once_in(8);
+        write_frame(pen, draw, Taste { sizes: Sizes::Just(size), variable, escaped, ..TINY });
+    }
+}
+
+/// A stream with fixed blocking: blocks of one size, and a shorter last one.
+fn rows_short(judge: &mut Judge, family: usize, draw: &mut Draw, pen: &mut Pen) {
+    let (count, size) = (draw.from(1, 4), draw.from(2, 24));
+    let last = draw.from(1, size - 1);
+    pen.clear();
+    blocks(draw, pen, count, size, Some(false));
+    blocks(draw, pen, 1, last, Some(false));
+    judge.row_made_for(count as usize + 1, 1, family, &pen.bytes);
+}
+
+/// Blocks of one size, one that is larger, and then others. With variable blocking the larger one is read. With fixed
+/// blocking it is refused as soon as its header is read, if nothing in that is wrong, and whatever comes after it.
+fn rows_larger(judge: &mut Judge, family: usize, draw: &mut Draw, pen: &mut Pen) {
+    use Fault::*;
+    let (count, size, more) = (draw.from(1, 3), draw.from(1, 23), draw.from(0, 2));
+    let sizes = Sizes::Just(draw.from(size + 1, 24));
+    let fault = draw.pick(&[None, None, Some(BitsZero), Some(HeaderSum), Some(TypeReserved), Some(FrameSum)]);
+    let variable = draw.once_in(3);
+    pen.clear();
+    blocks(draw, pen, count, size, None);
+    let start = pen.bytes.len();
+    let larger = write_frame(pen, draw, Taste { sizes, variable: Some(variable), fault, ..TINY });
+    if fault.is_none() && draw.once_in(2) {
+        let length = pen.bytes.len() - start;
+        let cut = draw.below(length as u32) as usize;
+        pen.bytes.truncate(start + cut);
+        let number = match cut {
+            0 => 1,
+            cut if cut < larger.header || variable => 2,
+            _ => 9,
+        };
+        return judge.row_made_for(count as usize, number, family, &pen.bytes);
+    }
+    blocks(draw, pen, more, size, None);
+    let own = FAULTS.iter().find(|(known, _)| Some(*known) == fault).map(|(_, number)| *number);
+    let (frames, number) = match own {
+        Some(number) if variable || fault.is_some_and(is_in_header) => (count, number),
+        None if variable => (count + 1 + more, 1),
+        _ => (count, 9),
+    };
+    judge.row_made_for(frames as usize, number, family, &pen.bytes);
+}
+
+/// A first frame that is refused, and then others.
+fn rows_refused(judge: &mut Judge, family: usize, draw: &mut Draw, pen: &mut Pen) {
+    let (fault, number) = draw.pick(&FAULTS);
+    let first = single(draw, pen, Taste { fault: Some(fault), ..TINY });
+    let count = draw.from(1, 3);
+    blocks(draw, pen, count, first.size.min(24), None);
+    judge.row_made_for(0, number, family, &pen.bytes);
 }
 
 /// Frames with too little room, just enough, and more; sometimes cut short or with a wrong check sum.

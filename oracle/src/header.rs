@@ -12,6 +12,10 @@ pub enum Sizes {
     Tiny,
     /// Mostly below 50 samples, sometimes any size.
     Mixed,
+    /// At most this many samples.
+    UpTo(u32),
+    /// Just this many samples.
+    Just(u32),
 }
 
 pub struct Header {
@@ -27,13 +31,15 @@ pub struct Header {
 
 /// A size code and a size that it can hold.
 fn draw_size(draw: &mut Draw, sizes: Sizes) -> (u32, u32) {
-    let (fixed, size) = match draw.below(1000) {
-        even if even % 4 == 0 => (0, draw.pick(&[4, 8, 12, 16, 20, 24])),
-        _ if sizes == Sizes::Tiny => (0, draw.from(1, 24)),
-        1 => (draw.from(12, 15), 0),
-        2 => (0, draw.from(257, 65535)),
-        3..=29 => (draw.pick(&[1, 2, 3, 4, 5, 8, 9, 10, 11]), 0),
-        30..=99 => (0, draw.from(49, 256)),
+    let (fixed, size) = match (sizes, draw.below(1000)) {
+        (Sizes::Just(size), _) => (0, size),
+        (Sizes::UpTo(most), _) => (0, draw.from(1, most)),
+        (_, even) if even % 4 == 0 => (0, draw.pick(&[4, 8, 12, 16, 20, 24])),
+        (Sizes::Tiny, _) => (0, draw.from(1, 24)),
+        (_, 1) => (draw.from(12, 15), 0),
+        (_, 2) => (0, draw.from(257, 65535)),
+        (_, 3..=29) => (draw.pick(&[1, 2, 3, 4, 5, 8, 9, 10, 11]), 0),
+        (_, 30..=99) => (0, draw.from(49, 256)),
         _ => (0, draw.from(1, 48)),
     };
     match fixed {
@@ -55,9 +61,10 @@ fn draw_number(draw: &mut Draw, variable: bool) -> (u64, u32) {
 }
 
 impl Header {
-    pub fn draw(draw: &mut Draw, sizes: Sizes) -> Header {
+    pub fn draw(draw: &mut Draw, sizes: Sizes, variable: Option<bool>) -> Header {
         let (size_code, size) = draw_size(draw, sizes);
-        let variable = draw.once_in(2);
+        let either = draw.once_in(2);
+        let variable = variable.unwrap_or(either);
         let (number, number_bytes) = draw_number(draw, variable);
         let channel_code = if draw.once_in(2) { draw.from(8, 10) } else { draw.below(8).min(draw.below(8)) };
         let bits = draw.pick(&[8, 12, 16, 20, 24]);

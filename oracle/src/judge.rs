@@ -1,11 +1,15 @@
 //! Compares the two readers' answers, input by input, and counts them.
+use crate::rule::{due, stream_settings, Entry, Head, LISTED};
 use crate::sample::Sample;
+use common::draw::Draw;
 use common::readers::{Answer, Claxon, Ours, ROOM};
+use thriftacorn::ReadSettings;
 
-/// The entries of docs/DIFFERENCES.md for which the two answers differ, as far as a family reaches them. At most other
-/// entries the two agree and differ only from the RFC.
-pub const LISTED: [&str; 5] =
-    ["one byte of input", "bits code 7, 32 bits", "number starting with FF", "room", "escaped partition"];
+/// One in this many single inputs is read again, with other settings.
+const AGAIN: u32 = 4;
+
+/// The settings of those reads.
+pub const OTHERS: [&str; 5] = ["unknown", "not below the block", "below the block", "0", "above 65535"];
 
 /// How often each answer was seen in one family, by number. An input that got 7 is read again with enough room, and
 /// counted by that answer too.
@@ -15,30 +19,51 @@ pub struct Tally {
     pub numbers: [u64; 11],
 }
 
-pub struct Judge {
-    ours: Ours,
-    spare: Vec<i32>,
-    pub tallies: Vec<Tally>,
-    pub total: u64,
-    pub listed: [u64; LISTED.len()],
-    pub sample: Sample,
+/// One frame of an input, as claxon has it.
+struct Asked<'a> {
+    family: usize,
+    bytes: &'a [u8],
+    head: Option<Head>,
+    /// Where claxon stops at an escaped partition, this is the answer of claxon extended.
+    answer: Answer,
+    escaped: bool,
+    samples: &'a [i32],
 }
 
-/// Which entry of the list allows these answers to differ.
-fn entry(bytes: &[u8], ours: Answer, claxon: Answer) -> Option<usize> {
-    let four_read = bytes.len() >= 4 && bytes[2] >> 4 != 0 && bytes[2] & 15 != 15 && bytes[3] >> 4 <= 10;
-    let synced = four_read && bytes[0] == 0xFF && bytes[1] & 0xFE == 0xF8;
-    match (ours, claxon) {
-        (Answer::Refused(2), Answer::Refused(1)) if bytes.len() == 1 => Some(0),
-        (Answer::Refused(8), Answer::Refused(4)) if synced && bytes[3] >> 1 & 7 == 7 => Some(1),
-        (Answer::Refused(5), Answer::Frame(_) | Answer::Refused(_)) if synced && bytes.get(4) == Some(&0xFF) => Some(2),
-        _ => None,
+impl<'a> Asked<'a> {
+    /// Has claxon read the frame at the start of these bytes, where it has arrived.
+    fn new(family: usize, bytes: &'a [u8], claxon: &'a mut Claxon) -> Asked<'a> {
+        let read = claxon.read();
+        let escaped = read == Answer::Escaped;
+        let answer = if escaped { claxon.read_extended() } else { read };
+        Asked { family, bytes, head: Head::of(bytes), answer, escaped, samples: &claxon.samples }
     }
 }
 
+pub struct Judge {
+    ours: Ours,
+    spare: Vec<i32>,
+    /// Chooses the inputs that are read again, and their settings.
+    draw: Draw,
+    pub tallies: Vec<Tally>,
+    pub total: u64,
+    pub listed: [u64; LISTED.len()],
+    pub others: [u64; OTHERS.len()],
+    pub sample: Sample,
+}
+
 impl Judge {
-    pub fn new(sample: Sample) -> Judge {
-        Judge { ours: Ours::new(), spare: Vec::new(), tallies: Vec::new(), total: 0, listed: [0; LISTED.len()], sample }
+    pub fn new(sample: Sample, seed: u64) -> Judge {
+        Judge {
+            ours: Ours::new(),
+            spare: Vec::new(),
+            draw: Draw::new(seed, "settings"),
+            tallies: Vec::new(),
+            total: 0,
+            listed: [0; LISTED.len()],
+            others: [0; OTHERS.len()],
+            sample,
+        }
     }
 
     /// Counts what follows under this name.
@@ -54,19 +79,33 @@ impl Judge {
     pub fn made_for(&mut self, number: u8, family: usize, bytes: &[u8]) {
         let got = self.one(family, bytes);
         if got != number {
-            println!(
-                "family {}: both readers answer {got}, and the input was made for {number}",
-                self.tallies[family].name
-            );
-            println!("input  {}", crate::hex(bytes));
-            std::process::exit(1)
+            self.unmade(family, bytes, &format!("{got}"), &format!("{number}"));
         }
+    }
+
+    /// Reads frame after frame of these bytes, which were made to get so many frames and then this number.
+    pub fn row_made_for(&mut self, frames: usize, number: u8, family: usize, bytes: &[u8]) {
+        let got = self.row(family, bytes);
+        if got != (frames, number) {
+            let words = |(frames, number)| format!("{number} after {frames} frames");
+            self.unmade(family, bytes, &words(got), &words((frames, number)));
+        }
+    }
+
+    /// Ends the run at an input that gets another answer than it was made for.
+    fn unmade(&self, family: usize, bytes: &[u8], got: &str, wanted: &str) -> ! {
+        println!("family {}: the answer is {got}, and the input was made for {wanted}", self.tallies[family].name);
+        println!("input  {}", crate::hex(bytes));
+        std::process::exit(1)
     }
 
     /// Reads one frame of these bytes. Returns this reader's number.
     pub fn one(&mut self, family: usize, bytes: &[u8]) -> u8 {
         let mut claxon = Claxon::new(bytes, std::mem::take(&mut self.spare));
-        let number = self.step(family, bytes, &mut claxon, ROOM).map_or_else(|number| number, |_| 0);
+        let asked = Asked::new(family, bytes, &mut claxon);
+        let settings = self.stream(&asked);
+        let number = self.step(&asked, &settings, ROOM).map_or_else(|number| number, |_| 0);
+        self.again(&asked, ROOM);
         self.spare = claxon.samples;
         number
     }
@@ -74,61 +113,113 @@ impl Judge {
     /// Reads one frame of these bytes with this much room. If that is too little, the readers must agree with enough.
     pub fn lent(&mut self, family: usize, bytes: &[u8], room: usize) {
         let mut claxon = Claxon::new(bytes, std::mem::take(&mut self.spare));
-        let answer = self.ours.read(bytes, room);
-        let too_little = answer == Answer::Refused(7) && self.ours.is_in_order(answer);
+        let asked = Asked::new(family, bytes, &mut claxon);
+        let settings = self.stream(&asked);
+        let too_little = self.hold(&asked, &settings, room).0 == Answer::Refused(7);
         if too_little {
-            self.listed[3] += 1;
+            self.listed[Entry::Room as usize] += 1;
             self.tallies[family].numbers[7] += 1;
         }
-        let _ = self.step(family, bytes, &mut claxon, if too_little { ROOM } else { room });
+        let _ = self.step(&asked, &settings, if too_little { ROOM } else { room });
+        self.again(&asked, room);
         self.spare = claxon.samples;
     }
 
-    /// Reads frame after frame of these bytes, up to the first refusal.
-    pub fn row(&mut self, family: usize, bytes: &[u8]) {
+    /// Reads frame after frame of these bytes, up to the first refusal, all with the settings that the first header
+    /// gives. Returns how many frames there are, and the refusal.
+    pub fn row(&mut self, family: usize, bytes: &[u8]) -> (usize, u8) {
         let mut claxon = Claxon::new(bytes, std::mem::take(&mut self.spare));
-        let mut at = 0;
-        while let Ok(consumed) = self.step(family, &bytes[at..], &mut claxon, ROOM) {
-            at += consumed;
-        }
+        let (mut at, mut frames, mut first) = (0, 0, None);
+        let number = loop {
+            let asked = Asked::new(family, &bytes[at..], &mut claxon);
+            let settings = *first.get_or_insert_with(|| self.stream(&asked));
+            match self.step(&asked, &settings, ROOM) {
+                Ok(consumed) => (at, frames) = (at + consumed, frames + 1),
+                Err(number) => break number,
+            }
+        };
         self.spare = claxon.samples;
+        (frames, number)
     }
 
-    /// Both readers on the same bytes. Returns the bytes consumed, or this reader's refusal. Where claxon stops at an
-    /// escaped partition, claxon extended must answer as this reader does.
-    fn step(&mut self, family: usize, bytes: &[u8], claxon: &mut Claxon, room: usize) -> Result<usize, u8> {
-        let ours = self.ours.read(bytes, room);
-        let read = claxon.read();
-        let theirs = if read == Answer::Escaped { claxon.read_extended() } else { read };
-        let samples_equal = !matches!(ours, Answer::Frame(_)) || self.ours.samples() == &claxon.samples[..];
-        if ours == theirs && samples_equal && self.ours.is_in_order(ours) {
-            match read {
-                Answer::Escaped => self.listed[4] += 1,
-                _ => self.sample.offer(family, self.tallies[family].name, bytes, ours),
-            }
-        } else if let Some(entry) = entry(bytes, ours, theirs).filter(|_| self.ours.is_in_order(ours)) {
-            self.listed[entry] += 1;
-        } else {
-            self.part(family, bytes, room, theirs, samples_equal);
+    /// The settings of a stream that starts with this frame. This reader must find the same.
+    fn stream(&mut self, first: &Asked) -> ReadSettings {
+        let settings = stream_settings(first.head.as_ref());
+        let found = ReadSettings::of_stream(first.bytes);
+        if found != settings {
+            println!("a difference off the list, family {}, input {}", self.tallies[first.family].name, self.total);
+            println!("input  {}", crate::hex(first.bytes));
+            println!("the settings of the stream are {found:?}, and by claxon {settings:?}");
+            std::process::exit(1)
+        }
+        settings
+    }
+
+    /// Both readers on the same bytes. Returns the bytes consumed, or this reader's refusal.
+    fn step(&mut self, asked: &Asked, settings: &ReadSettings, room: usize) -> Result<usize, u8> {
+        let (ours, entry) = self.hold(asked, settings, room);
+        let name = self.tallies[asked.family].name;
+        if let Some(entry) = entry {
+            self.listed[entry as usize] += 1;
+        }
+        match entry {
+            None | Some(Entry::ShortBlock) if asked.escaped => self.listed[Entry::Escaped as usize] += 1,
+            None => self.sample.offer(asked.family, name, asked.bytes, ours),
+            // At the other entries this reader has met no partition.
+            Some(_) => {}
         }
         let number = ours.number().expect("this reader has a number for everything");
         self.total += 1;
-        self.tallies[family].inputs += 1;
-        self.tallies[family].numbers[usize::from(number)] += 1;
+        self.tallies[asked.family].inputs += 1;
+        self.tallies[asked.family].numbers[usize::from(number)] += 1;
         match ours {
             Answer::Frame(frame) => Ok(frame.consumed),
             _ => Err(number),
         }
     }
 
-    /// Ends the run at a difference that is not on the list.
-    fn part(&mut self, family: usize, bytes: &[u8], room: usize, theirs: Answer, samples_equal: bool) -> ! {
-        let ours = self.ours.read(bytes, room);
-        println!("a difference off the list, family {}, input {}", self.tallies[family].name, self.total);
-        println!("input  {}", crate::hex(bytes));
-        println!("ours   {ours:?}");
-        println!("claxon {theirs:?}");
-        println!("samples equal: {samples_equal}; buffer as document 01 has it: {}", self.ours.is_in_order(ours));
-        std::process::exit(1)
+    /// Has this reader read, and holds its answer to what claxon's requires. Returns its answer, and the entry by which
+    /// that is not claxon's.
+    fn hold(&mut self, asked: &Asked, settings: &ReadSettings, room: usize) -> (Answer, Option<Entry>) {
+        let ours = self.ours.read(asked.bytes, settings, room);
+        let due = due(asked.bytes, asked.head.as_ref(), settings, room, asked.answer);
+        let samples_equal = !matches!(ours, Answer::Frame(_)) || self.ours.samples() == asked.samples;
+        let in_order = self.ours.is_in_order(ours) && (!due.untouched || self.ours.is_untouched());
+        if ours != due.answer || !samples_equal || !in_order {
+            println!("a difference off the list, family {}, input {}", self.tallies[asked.family].name, self.total);
+            println!("input  {}", crate::hex(asked.bytes));
+            println!("read with {settings:?} and room for {room} samples");
+            println!("ours   {ours:?}");
+            println!("claxon {:?}, by which {:?} is due", asked.answer, due.answer);
+            println!("samples equal: {samples_equal}; buffer as it must be: {in_order}");
+            std::process::exit(1)
+        }
+        (ours, due.entry)
+    }
+
+    /// Has this reader read some of the inputs with other settings than their own.
+    fn again(&mut self, asked: &Asked, room: usize) {
+        if !self.draw.once_in(AGAIN) {
+            return;
+        }
+        let own = asked.head.map_or_else(|| self.draw.from(1, 65535), |head| head.size as u32);
+        let kind = match self.draw.below(5) {
+            2 if own == 1 => 1,
+            kind => kind as usize,
+        };
+        let size = match kind {
+            1 if self.draw.once_in(2) => (own + self.draw.below(3)).min(65535) as usize,
+            1 => self.draw.from(own, 65535) as usize,
+            2 if self.draw.once_in(2) => own as usize - 1,
+            2 => self.draw.from(1, own - 1) as usize,
+            4 => self.draw.pick(&[65536, 65537, usize::MAX]),
+            _ => 0,
+        };
+        let unknown = ReadSettings::new();
+        let (_, entry) = self.hold(asked, &if kind == 0 { unknown } else { unknown.with_block(size) }, room);
+        self.others[kind] += 1;
+        if let Some(entry @ (Entry::ShortBlock | Entry::LargerBlock)) = entry {
+            self.listed[entry as usize] += 1;
+        }
     }
 }

@@ -9,6 +9,7 @@ mod judge;
 mod material;
 mod pen;
 mod program;
+mod rule;
 mod sample;
 mod short;
 mod subframe;
@@ -16,8 +17,9 @@ mod subframe;
 use common::draw::Draw;
 use common::flac;
 use families::FAMILIES;
-use judge::{Judge, LISTED};
+use judge::{Judge, OTHERS};
 use pen::Pen;
+use rule::LISTED;
 use sample::Sample;
 use std::path::PathBuf;
 use std::time::{Duration, Instant};
@@ -106,6 +108,8 @@ fn report(judge: &Judge, seconds: f64) {
     for (name, count) in LISTED.iter().zip(judge.listed) {
         println!("listed difference, {name}: {count} times");
     }
+    let others = OTHERS.iter().zip(judge.others).map(|(name, count)| format!("{name} {count} times"));
+    println!("read again with another block size: {}", others.collect::<Vec<_>>().join(", "));
     println!("{} inputs in {seconds:.0} s, 0 differences off the list", judge.total);
 }
 
@@ -130,7 +134,7 @@ fn main() {
         None => Sample::new(4, 32768, 50000),
     };
     let start = Instant::now();
-    let mut judge = Judge::new(sample);
+    let mut judge = Judge::new(sample, wish.seed);
     short::run(&mut judge);
     encoded(&mut judge, &wish);
     rounds(&mut judge, &wish, start);

@@ -1,6 +1,6 @@
 //! Inputs kept from every family for other uses: the program `runner`, and the list of stored cases.
+use crate::rule::{due, stream_settings, Entry, Head};
 use common::readers::{Answer, Claxon};
-use thriftacorn::{read_frame, Refusal};
 
 /// What the program `runner` reads of its input, and the samples that it has room for.
 const RUNNER_BYTES: usize = 32768;
@@ -53,31 +53,26 @@ impl Sample {
     }
 }
 
-/// Whether document 01 and claxon differ on these bytes (docs/DIFFERENCES.md).
-fn is_listed(bytes: &[u8]) -> bool {
-    let room = &mut [0; RUNNER_ROOM];
-    bytes.len() == 1
-        || bytes.len() >= 4 && bytes[3] >> 1 & 7 == 7
-        || bytes.len() >= 5 && bytes[4] == 0xFF
-        || read_frame(bytes, room) == Err(Refusal::NoRoom)
-}
-
-/// What `runner` must write, from claxon's answers; `None` if one of the frames is on the list of differences.
+/// What `runner` must write, from claxon's answers. With fixed blocking it goes by the first frame's block size; `None` if
+/// one of the frames is on the list of differences for another reason.
 pub fn render(bytes: &[u8]) -> Option<Vec<u8>> {
     let bytes = &bytes[..bytes.len().min(RUNNER_BYTES)];
+    let settings = stream_settings(Head::of(bytes).as_ref());
     let mut claxon = Claxon::new(bytes, Vec::new());
     let mut at = 0;
     let mut out = Vec::new();
     loop {
-        if is_listed(&bytes[at..]) {
+        let rest = &bytes[at..];
+        let due = due(rest, Head::of(rest).as_ref(), &settings, RUNNER_ROOM, claxon.read());
+        if !matches!(due.entry, None | Some(Entry::ShortBlock | Entry::LargerBlock)) {
             return None;
         }
-        match claxon.read() {
+        match due.answer {
             Answer::Frame(frame) => {
                 at += frame.consumed;
                 out.push(1);
                 out.extend((frame.consumed as u32).to_le_bytes());
-                out.extend(frame.first_sample.to_le_bytes());
+                out.extend(frame.first.expect("the first header gives a size").to_le_bytes());
                 out.extend([frame.channels as u8, frame.bits as u8]);
                 out.extend((frame.block_size as u16).to_le_bytes());
                 for sample in &claxon.samples {

@@ -4,6 +4,7 @@
 use common::readers::{Answer, Claxon, Ours};
 use common::sums::crc16;
 use std::time::Instant;
+use thriftacorn::ReadSettings;
 
 /// As many bytes as hold 2^32 bits.
 const ZEROS: usize = 1 << 29;
@@ -24,7 +25,7 @@ fn main() {
     let bytes = frame();
     println!("a frame of {} bytes, with 2^32 zeros before the one that ends its count of wasted bits", bytes.len());
     let start = Instant::now();
-    let ours = Ours::new().read(&bytes, 1);
+    let ours = Ours::new().read(&bytes, &ReadSettings::of_stream(&bytes), 1);
     println!("ours   {ours:?}, in {:.1} s", start.elapsed().as_secs_f64());
     let start = Instant::now();
     let mut claxon = Claxon::new(&bytes, Vec::new());

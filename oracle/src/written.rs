@@ -32,7 +32,7 @@ fn write_one(samples: &[i32], settings: &WriteSettings) -> Vec<u8> {
         Blocking::Fixed => settings.number * settings.block_size as u64,
         Blocking::Variable => settings.number,
     };
-    if (read.consumed, read.first_sample, read.bits) != (frame.len(), first, settings.bits) {
+    if (read.consumed, read.first, read.bits) != (frame.len(), Some(first), settings.bits) {
         stop(settings, &format!("it reports {read:?}"), "claxon");
     }
     if claxon.samples != samples {

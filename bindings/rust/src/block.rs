@@ -10,7 +10,7 @@ impl Frame {
     /// ```
     /// # let bytes = [0xFF, 0xF8, 0x69, 0x18, 0, 0, 0xBF, 0x03, 0x58, 0xFD, 0x03, 0x12, 0x8B, 0xAA, 0x9A];
     /// let mut samples = [0; 2];
-    /// let frame = thriftacorn::read_frame(&bytes, &mut samples)?;
+    /// let frame = thriftacorn::read_frame(&bytes, &Default::default(), &mut samples)?;
     /// assert_eq!(frame.channel(&samples, 1), Some(&[10416][..]));
     /// assert_eq!(frame.channel(&samples, 2), None);
     /// assert_eq!(frame.channel(&samples[..1], 0), None);
@@ -38,7 +38,7 @@ impl Frame {
     /// ```
     /// # let bytes = [0xFF, 0xF8, 0x69, 0x18, 0, 0, 0xBF, 0x03, 0x58, 0xFD, 0x03, 0x12, 0x8B, 0xAA, 0x9A];
     /// # let mut samples = [0; 2];
-    /// # let frame = thriftacorn::read_frame(&bytes, &mut samples)?;
+    /// # let frame = thriftacorn::read_frame(&bytes, &Default::default(), &mut samples)?;
     /// assert_eq!(frame.sample(&samples, 0, 0), Some(25588));
     /// assert_eq!(frame.sample(&samples, 0, 1), None);
     /// # Ok::<(), thriftacorn::Refusal>(())
@@ -65,7 +65,7 @@ impl Frame {
     /// ```
     /// # let bytes = [0xFF, 0xF8, 0x69, 0x18, 0, 0, 0xBF, 0x03, 0x58, 0xFD, 0x03, 0x12, 0x8B, 0xAA, 0x9A];
     /// # let mut samples = [0; 2];
-    /// # let frame = thriftacorn::read_frame(&bytes, &mut samples)?;
+    /// # let frame = thriftacorn::read_frame(&bytes, &Default::default(), &mut samples)?;
     /// assert_eq!(frame.pair(&samples, 0), Some((25588, 10416)));
     /// assert_eq!(frame.pair(&samples, 1), None);
     /// # Ok::<(), thriftacorn::Refusal>(())

@@ -5,15 +5,18 @@
 //! input and every buffer gets one answer, and what the buffers hold afterwards is fixed too. No call allocates or
 //! panics, and nothing is kept between calls.
 //!
+//! With fixed blocking a frame does not say where in its stream it belongs: that takes the size of the stream's blocks.
+//! [`ReadSettings`] gives it to the reader, or says that it is unknown. [`Frames`] takes it from the first frame.
+//!
 //! ```
-//! use thriftacorn::{read_frame, Refusal};
+//! use thriftacorn::{read_frame, ReadSettings, Refusal};
 //!
 //! // The frame of RFC 9639's first example: two channels of one sample.
 //! let bytes = [0xFF, 0xF8, 0x69, 0x18, 0x00, 0x00, 0xBF, 0x03, 0x58, 0xFD, 0x03, 0x12, 0x8B, 0xAA, 0x9A];
 //! let mut samples = [0; 4096];
-//! let frame = read_frame(&bytes, &mut samples)?;
+//! let frame = read_frame(&bytes, &ReadSettings::of_stream(&bytes), &mut samples)?;
 //! assert_eq!((frame.consumed, frame.channels, frame.bits, frame.block_size), (15, 2, 16, 1));
-//! assert_eq!(samples[..frame.samples()], [25588, 10416]);
+//! assert_eq!((frame.first, &samples[..frame.samples()]), (Some(0), &[25588, 10416][..]));
 //! # Ok::<(), Refusal>(())
 //! ```
 //!
@@ -24,7 +27,7 @@
 //! frame can be any bytes, even those of a whole frame with both its check sums right.
 //!
 //! ```
-//! use thriftacorn::{read_frame, Need, Refusal};
+//! use thriftacorn::{read_frame, Need, ReadSettings, Refusal};
 //!
 //! // A frame of one channel, 8 bits, 191 verbatim samples. Fifteen of them are the bytes of the frame above.
 //! let mut frame = vec![0xFF, 0xF8, 0x60, 0x02, 0x00, 0xBE, 0x0F, 0x02];
@@ -35,25 +38,25 @@
 //! assert_eq!(frame.len(), 201);
 //!
 //! // Only 161 bytes of it have arrived. The answer is to wait.
-//! let mut samples = [0; 256];
+//! let (mut samples, unknown) = ([0; 256], ReadSettings::new());
 //! let so_far = &frame[..161];
-//! let refusal = read_frame(so_far, &mut samples).unwrap_err();
+//! let refusal = read_frame(so_far, &unknown, &mut samples).unwrap_err();
 //! assert_eq!((refusal, refusal.needs()), (Refusal::CutShort, Need::Wait));
 //!
 //! // A program that takes this for a bad frame, and searches on, finds one at byte 107 that nobody recorded.
-//! let found = (1..so_far.len()).find(|&place| read_frame(&so_far[place..], &mut samples).is_ok());
+//! let found = (1..so_far.len()).find(|&place| read_frame(&so_far[place..], &unknown, &mut samples).is_ok());
 //! assert_eq!(found, Some(107));
 //!
 //! // A program that waits gets the frame.
-//! let whole = read_frame(&frame, &mut samples)?;
+//! let whole = read_frame(&frame, &unknown, &mut samples)?;
 //! assert_eq!((whole.consumed, whole.channels, whole.block_size), (201, 1, 191));
 //! # Ok::<(), Refusal>(())
 //! ```
 //!
 //! # What will not change
 //!
-//! A refusal keeps its number and an answer its meaning. [`Refusal`], [`Frame`] and [`WriteSettings`] are
-//! `#[non_exhaustive]`: there may be more causes, reports and settings later.
+//! A refusal keeps its number and an answer its meaning. [`Refusal`], [`Frame`], [`ReadSettings`] and
+//! [`WriteSettings`] are `#[non_exhaustive]`: there may be more causes, reports and settings later.
 //!
 //! The functions come from the static library `libthriftacorn.a`; `build.rs` says where it is found.
 mod block;
@@ -61,11 +64,13 @@ mod frames;
 mod library;
 mod read;
 mod refusal;
+mod settings;
 mod write;
 
 pub use frames::Frames;
 pub use read::{read_frame, Frame, ROOM};
 pub use refusal::{Need, Refusal};
+pub use settings::ReadSettings;
 pub use write::{write_frame, Blocking, WriteSettings};
 
 /// The result for a number that the library returned: 0 means the value, any other a refusal.

@@ -1,5 +1,6 @@
-//! The functions of `libthriftacorn.a` as they are. A slice is passed as its pointer and its length. Each function
-//! answers on every argument, and `_v1` means that it will not change: one with more settings gets a new name.
+//! The functions of `libthriftacorn.a` as they are, as far as this crate calls them. A slice is passed as its pointer
+//! and its length. Each function answers on every argument, and `_v1` or `_v2` means that it will not change: one with
+//! more settings gets a new name.
 //!
 //! What every call here must ensure. A pointer and its length come from one slice, so that it may be read, or written
 //! if it is `mut`; an empty slice's pointer is aligned and not null. Each value that is returned through a pointer
@@ -8,30 +9,38 @@
 
 #[link(name = "thriftacorn", kind = "static")]
 extern "C" {
-    pub fn thriftacorn_read_frame_v1(
+    pub fn thriftacorn_read_frame_v2(
         bytes: *const u8,
         bytes_len: usize,
+        block_given: u32,
+        block: usize,
         samples: *mut i32,
         samples_len: usize,
         consumed: *mut usize,
+        first_known: *mut u32,
         first: *mut u64,
         channels: *mut usize,
         bits: *mut u32,
         size: *mut usize,
     ) -> u8;
 
-    pub fn thriftacorn_read_next_v1(
+    pub fn thriftacorn_read_next_v2(
         bytes: *const u8,
         bytes_len: usize,
         place: *mut usize,
+        block_given: u32,
+        block: usize,
         samples: *mut i32,
         samples_len: usize,
         consumed: *mut usize,
+        first_known: *mut u32,
         first: *mut u64,
         channels: *mut usize,
         bits: *mut u32,
         size: *mut usize,
     ) -> u8;
+
+    pub fn thriftacorn_stream_block_v1(bytes: *const u8, bytes_len: usize, block: *mut usize) -> u32;
 
     pub fn thriftacorn_write_frame_v1(
         samples: *const i32,

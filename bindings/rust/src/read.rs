@@ -1,5 +1,5 @@
 //! Reading one frame.
-use crate::{answer, library, Refusal};
+use crate::{answer, library, ReadSettings, Refusal};
 
 /// Room for every frame: eight channels of 65535 samples.
 pub const ROOM: usize = 8 * 65535;
@@ -10,10 +10,10 @@ pub const ROOM: usize = 8 * 65535;
 pub struct Frame {
     /// The bytes of the frame, from its sync code through its CRC-16. The next frame starts after them.
     pub consumed: usize,
-    /// The number of the block's first sample: with variable blocking the number in the header, with fixed blocking
-    /// that number times the block size. It is always known here; `None` is reserved for settings under which a frame
-    /// does not say.
-    pub first_sample: Option<u64>,
+    /// The number of the block's first sample in its channel: with variable blocking the number in the header, with
+    /// fixed blocking that number times the size of the stream's blocks. It is `None` if that size is needed and
+    /// [`ReadSettings::block`] does not give it.
+    pub first: Option<u64>,
     /// How many channels there are, 1 to 8.
     pub channels: usize,
     /// Bits per sample: 8, 12, 16, 20 or 24.
@@ -33,6 +33,7 @@ impl Frame {
 #[derive(Default)]
 pub(crate) struct Report {
     pub consumed: usize,
+    pub first_known: u32,
     pub first: u64,
     pub channels: usize,
     pub bits: u32,
@@ -43,8 +44,9 @@ pub(crate) struct Report {
 pub(crate) fn reported(call: impl FnOnce(&mut Report) -> u8) -> Result<Frame, Refusal> {
     let mut report = Report::default();
     let number = call(&mut report);
-    let Report { consumed, first, channels, bits, size } = report;
-    answer(number, Frame { consumed, first_sample: Some(first), channels, bits, block_size: size })
+    let Report { consumed, first_known, first, channels, bits, size } = report;
+    let first = (first_known == 1).then_some(first);
+    answer(number, Frame { consumed, first, channels, bits, block_size: size })
 }
 
 /// Reads the frame at the start of `bytes` into `samples`, channel after channel. Neither the bytes after the frame nor
@@ -55,30 +57,39 @@ pub(crate) fn reported(call: impl FnOnce(&mut Report) -> u8) -> Result<Frame, Re
 /// | answer | `samples` |
 /// |---|---|
 /// | a frame | the first N are the samples, the others untouched |
-/// | 1, 3, 5, 6, 7 | untouched |
+/// | 1, 3, 5, 6, 7, 11 | untouched |
 /// | 2, 4, 8, 9, before the first subframe's first bit was read | untouched |
 /// | 2, 4, 8, 9, from then on | the first N are zero, the others untouched |
 /// | 10 | the first N are zero, the others untouched |
 ///
-/// More bytes can change only the answers 1 and 2, and more room only 7: [`Refusal::needs`] says which it is. [`ROOM`]
-/// is enough for every frame.
+/// Settings that no stream has are refused with 11 before a byte is read, so on empty input too. A block larger than
+/// the stream's is refused with 9 after the header, before the room is looked at.
+///
+/// With the same settings, more bytes can change only the answers 1 and 2, and more room only 7: [`Refusal::needs`]
+/// says which it is. [`ROOM`] is enough for every frame.
 ///
 /// ```
-/// use thriftacorn::{read_frame, Refusal};
+/// use thriftacorn::{read_frame, ReadSettings, Refusal};
 /// let mut samples = [7; 2];
-/// assert_eq!(read_frame(&[], &mut samples), Err(Refusal::NothingLeft));
-/// assert_eq!(read_frame(b"RIFF", &mut samples), Err(Refusal::NotSync));
+/// let unknown = ReadSettings::new();
+/// assert_eq!(read_frame(&[], &unknown, &mut samples), Err(Refusal::NothingLeft));
+/// assert_eq!(read_frame(b"RIFF", &unknown, &mut samples), Err(Refusal::NotSync));
+/// assert_eq!(read_frame(&[], &unknown.with_block(65536), &mut samples), Err(Refusal::BadArgument));
 /// assert_eq!(samples, [7, 7]);
 /// ```
-pub fn read_frame(bytes: &[u8], samples: &mut [i32]) -> Result<Frame, Refusal> {
-    // SAFETY: as `library` requires; the five pointers are to different fields of `report`.
+pub fn read_frame(bytes: &[u8], settings: &ReadSettings, samples: &mut [i32]) -> Result<Frame, Refusal> {
+    let (block_given, block) = settings.given_block();
+    // SAFETY: as `library` requires; the six pointers are to different fields of `report`.
     reported(|report| unsafe {
-        library::thriftacorn_read_frame_v1(
+        library::thriftacorn_read_frame_v2(
             bytes.as_ptr(),
             bytes.len(),
+            block_given,
+            block,
             samples.as_mut_ptr(),
             samples.len(),
             &mut report.consumed,
+            &mut report.first_known,
             &mut report.first,
             &mut report.channels,
             &mut report.bits,

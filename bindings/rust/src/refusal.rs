@@ -1,7 +1,7 @@
 //! Why a frame was not read or not written, and what that asks of the caller.
 use std::{error::Error, fmt};
 
-/// Why a frame was not read (1 to 10) or not written (11 to 13). Each cause has one number, which it keeps; there may
+/// Why a frame was not read (1 to 11) or not written (11 to 13). Each cause has one number, which it keeps; there may
 /// be more causes later. What to do about one is [`Refusal::needs`].
 #[derive(Clone, Copy, Debug, PartialEq, Eq, Hash)]
 #[non_exhaustive]
@@ -24,11 +24,11 @@ pub enum Refusal {
     /// 8: a part of the format that is not supported: a bit depth given only in the stream's header, 32 bits, a negative
     /// prediction shift.
     NotDone = 8,
-    /// 9: sizes that contradict each other.
+    /// 9: sizes that contradict each other: those in the frame, or a block larger than the stream's with fixed blocking.
     BadShape = 9,
     /// 10: the frame's CRC-16 differs.
     FrameSum = 10,
-    /// 11: a setting out of range, or a number of samples that is not the frame's.
+    /// 11: a setting out of range, of the reader's or of the writer's, or a number of samples that is not the frame's.
     BadArgument = 11,
     /// 12: a sample that does not fit its bits.
     SampleRange = 12,
@@ -74,7 +74,8 @@ impl Refusal {
         ALL.get(usize::from(number).wrapping_sub(1)).copied()
     }
 
-    /// What this refusal asks of the caller. The writer's refusals, 11 to 13, are final; the reader never gives them.
+    /// What this refusal asks of the caller. 11 to 13 are final: other settings, samples or output are needed. The
+    /// reader gives 11 for settings that no stream has, and never 12 or 13.
     ///
     /// ```
     /// use thriftacorn::{Need, Refusal};

@@ -85,7 +85,8 @@ impl WriteSettings {
 }
 
 /// Writes one frame to the front of `out` and returns its length. `samples` are given channel after channel: for two
-/// channels left, then right, whatever the channel code. Reading the frame gives these samples back.
+/// channels left, then right, whatever the channel code. Reading the frame gives these samples back, unless it has fixed
+/// blocking and [`ReadSettings::block`](crate::ReadSettings::block) is below its block size.
 ///
 /// Past the frame `out` is untouched. A refusal leaves all of `out` untouched. They are checked in this order:
 ///
@@ -96,14 +97,14 @@ impl WriteSettings {
 /// | 13 | exactly when the frame is longer than `out`: [`WriteSettings::longest`] is enough |
 ///
 /// ```
-/// use thriftacorn::{read_frame, write_frame, WriteSettings};
+/// use thriftacorn::{read_frame, write_frame, ReadSettings, WriteSettings};
 /// let settings = WriteSettings::new(1, 16, 4).fixed(3);
 /// let samples = [1, 2, 3, 4, -1, -2, -3, -4];
 /// let mut out = vec![0; settings.longest()];
 /// let length = write_frame(&samples, &settings, &mut out)?;
 /// let mut again = [0; 8];
-/// let frame = read_frame(&out[..length], &mut again)?;
-/// assert_eq!((frame.consumed, frame.first_sample, again), (length, Some(12), samples));
+/// let frame = read_frame(&out[..length], &ReadSettings::new().with_block(4), &mut again)?;
+/// assert_eq!((frame.consumed, frame.first, again), (length, Some(12), samples));
 /// # Ok::<(), thriftacorn::Refusal>(())
 /// ```
 pub fn write_frame(samples: &[i32], settings: &WriteSettings, out: &mut [u8]) -> Result<usize, Refusal> {

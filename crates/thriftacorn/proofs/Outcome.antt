@@ -1,13 +1,15 @@
 -- Any two outcomes that meet an exported function's contract are equal. Assumes nothing.
 use Prim.Native.Nat.{ℕ, _+_}
 use native.Mathlib.Omega.{arith}
-use mathlib.Core.Path.{_≡_, refl, ap, ap₂}
+use mathlib.Core.Path.{_≡_, refl, ap}
 use Rattle.reading.proofs.Outcome.{OneOutcome, one-value}
-use Rattle.rfc9639.specs.Read.{Outcome}
 use Rattle.rfc9639.specs.Write.{Written}
 use Rattle.block.specs.Reports.{ChannelReport, SampleReport, PairReport}
 use Rattle.thriftacorn.proofs.read.thriftacorn_read_frame_v1 as read-frame
 use Rattle.thriftacorn.proofs.read.thriftacorn_read_next_v1 as read-next
+use Rattle.thriftacorn.proofs.read.thriftacorn_read_frame_v2 as read-frame-v2
+use Rattle.thriftacorn.proofs.read.thriftacorn_read_next_v2 as read-next-v2
+use Rattle.thriftacorn.proofs.read.thriftacorn_stream_block_v1 as stream-block
 use Rattle.thriftacorn.proofs.write.thriftacorn_write_frame_v1 as write-frame
 use Rattle.thriftacorn.proofs.write.thriftacorn_longest_v1 as longest
 use Rattle.thriftacorn.proofs.samples.thriftacorn_channel_v1 as channel
@@ -16,17 +18,39 @@ use Rattle.thriftacorn.proofs.samples.thriftacorn_pair_v1 as pair
 
 pub read-frame-v1-one : OneOutcome read-frame.ended read-frame.Reads.Learnt
 read-frame-v1-one κs args r r′ left left′ p q =
-    let e : _≡_ {A = Outcome} _ _ = one-value p q in
-    (ap (λ (o : Outcome). o .report .number) e, ap (λ (o : Outcome). (tt, (o .buffer, (o .report .consumed, (o .report .first, (o .report .channels, (o .report .bits, (o .report .size, tt)))))))) e)
+    let e = one-value (p .numbers) (q .numbers) in
+    let s = one-value (p .samples) (q .samples) in
+    (λ i. e i .refusal, λ i. (tt, (s i, (e i .consumed, (e i .first, (e i .channels, (e i .bits, (e i .size, tt))))))))
 
 moved-one : (place : ℕ) {next next′ n n′ : ℕ} → next ≡ place + n → next′ ≡ place + n′ → n ≡ n′ → next ≡ next′
 moved-one place p q e = omega arith
 
 pub read-next-v1-one : OneOutcome read-next.ended read-next.Reads.Learnt
 read-next-v1-one κs args r r′ left left′ p q =
-    let e : _≡_ {A = Outcome} _ _ = one-value (p .answer) (q .answer) in
-    let m = moved-one _ (p .moved) (q .moved) (ap (λ (o : Outcome). o .report .consumed) e) in
-    (ap (λ (o : Outcome). o .report .number) e, ap₂ (λ (n : ℕ) (o : Outcome). (tt, (n, (o .buffer, (o .report .consumed, (o .report .first, (o .report .channels, (o .report .bits, (o .report .size, tt))))))))) m e)
+    let e = one-value (p .answer .numbers) (q .answer .numbers) in
+    let s = one-value (p .answer .samples) (q .answer .samples) in
+    let m = moved-one _ (p .moved) (q .moved) (λ i. e i .consumed) in
+    (λ i. e i .refusal, λ i. (tt, (m i, (s i, (e i .consumed, (e i .first, (e i .channels, (e i .bits, (e i .size, tt)))))))))
+
+pub read-frame-v2-one : OneOutcome read-frame-v2.ended read-frame-v2.Reads.Learnt
+read-frame-v2-one κs args r r′ left left′ p q =
+    let e = one-value (p .answer .numbers) (q .answer .numbers) in
+    let s = one-value (p .answer .samples) (q .answer .samples) in
+    let k = one-value (p .flag) (q .flag) in
+    (λ i. e i .refusal, λ i. (tt, (tt, (tt, (s i, (e i .consumed, (k i, (e i .first, (e i .channels, (e i .bits, (e i .size, tt)))))))))))
+
+pub read-next-v2-one : OneOutcome read-next-v2.ended read-next-v2.Reads.Learnt
+read-next-v2-one κs args r r′ left left′ p q =
+    let e = one-value (p .frame .answer .numbers) (q .frame .answer .numbers) in
+    let s = one-value (p .frame .answer .samples) (q .frame .answer .samples) in
+    let k = one-value (p .frame .flag) (q .frame .flag) in
+    let m = moved-one _ (p .moved) (q .moved) (λ i. e i .consumed) in
+    (λ i. e i .refusal, λ i. (tt, (m i, (tt, (tt, (s i, (e i .consumed, (k i, (e i .first, (e i .channels, (e i .bits, (e i .size, tt))))))))))))
+
+pub stream-block-v1-one : OneOutcome stream-block.ended stream-block.Reads.Learnt
+stream-block-v1-one κs args r r′ left left′ p q =
+    let b = one-value (p .size) (q .size) in
+    (one-value (p .flag) (q .flag), λ i. (tt, (b i, tt)))
 
 pub write-frame-v1-one : OneOutcome write-frame.ended write-frame.Reads.Learnt
 write-frame-v1-one κs args r r′ left left′ p q =

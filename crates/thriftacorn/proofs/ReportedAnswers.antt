@@ -1,26 +1,74 @@
 -- The reports of answers: they are those of the definition's outcome. Assumes nothing.
-use Prim.Native.Nat.{ℕ, _+_}
-use mathlib.Core.Path.{_≡_, ap, ap₂, sym, _∙_}
+use Prim.Native.Nat.{ℕ, _+_, _-_, _≤_}
+use native.Mathlib.Omega.{arith}
+use mathlib.Core.Path.{_≡_, ap, sym, _∙_, subst}
 use mathlib.Core.List.{List}
 use lib.IntN.{ℤ}
-use Rattle.rfc9639.specs.Read.{Report, Outcome}
+use lib.ListN.{length, take, drop, length-drop, drop-of-length-le}
+use lib.Seq.{take-all}
+use Rattle.rfc9639.specs.declared.Settings.{Settings}
+use Rattle.rfc9639.specs.declared.StreamBlock.{StreamBlock}
+use Rattle.rfc9639.specs.Read.{Report, Outcome, read}
+use Rattle.rfc9639.specs.FrameByFrame.{streamSettings}
 use Rattle.rfc9639.specs.Write.{Written}
+use Rattle.demands.proofs.FrameByFrame.{no-header}
+use Rattle.demands.proofs.StreamSettings.{short-settings}
 use Rattle.frame.specs.declared.ReadAnswer.{ReadAnswer}
-use Rattle.frame.specs.Reads.{reportOf, Reads}
+use Rattle.frame.specs.Reads.{Reads}
 use Rattle.walk.specs.declared.Step.{Step}
 use Rattle.walk.specs.Steps.{Steps}
 use Rattle.frame_writer.specs.declared.WriteAnswer.{WriteAnswer}
 use Rattle.frame_writer.specs.Outcomes.{outcome}
-use Rattle.thriftacorn.specs.Exports.{ReadNextV1}
+use Rattle.thriftacorn.specs.Exports.{firstKnown, blockKnown, blockNumber, settingsOf, ReadNumbers, numbersOf, Returned, ReadFrameV1, ReadNextV1, ReadFrameV2, ReadNextV2, StreamBlockV1}
+use Rattle.thriftacorn.specs.Private.{ReportedAs}
 
-pub report-outcome : {o : Outcome} {r : ReadAnswer} {left : List ℤ} → Reads o r left → {q : Report} → q ≡ reportOf r
-    → _≡_ {A = Outcome} (record { report = q; buffer = left }) o
-report-outcome h e = ap₂ (λ (x : Report) (y : List ℤ). record { report = x; buffer = y }) (e ∙ h .report) (h .samples)
+-- ---- the settings of a stream
 
-pub step-outcome : {bytes : List ℕ} {place : ℕ} {samples : List ℤ} {r : Step} {left : List ℤ} → Steps bytes place samples r left → {q : Report} → q ≡ reportOf (r .answer)
-    → ReadNextV1 bytes place samples (q .number) (r .place) (q .consumed) (q .first) (q .channels) (q .bits) (q .size) left
-step-outcome {place = place} h e =
-    let t = report-outcome (h .answer) e in record { answer = t; moved = h .next ∙ ap (λ (o : Outcome). place + o .report .consumed) (sym t) }
+pub settings-within : (s : List ℕ) (place : ℕ) {set : Settings} → set ≡ streamSettings (take (length s - place) (drop place s)) → set ≡ streamSettings (drop place s)
+settings-within s place e = e ∙ ap streamSettings (take-all (length s - place) (drop place s) (omega (arith, length-drop place s)))
+
+pub settings-past : (s : List ℕ) (place : ℕ) → length s ≤ place → record { block = StreamBlock.Unknown } ≡ streamSettings (drop place s)
+settings-past s place h = sym (ap streamSettings (drop-of-length-le s {i = place} h) ∙ short-settings _ no-header)
+
+pub block-reported : {s : List ℕ} {set : Settings} {block : StreamBlock} → set ≡ streamSettings s → set .block ≡ block
+    → StreamBlockV1 s (blockKnown block) (blockNumber block)
+block-reported e f = record {
+  flag = ap blockKnown (sym f) ∙ ap (λ (x : Settings). blockKnown (x .block)) e;
+  size = ap blockNumber (sym f) ∙ ap (λ (x : Settings). blockNumber (x .block)) e;
+}
+
+-- ---- what is read
+
+module _ {refusal consumed known first channels bits size : ℕ} {left : List ℤ} where
+  pub returned : {o : Outcome} {r : ReadAnswer} → Reads o r left → ReportedAs r refusal consumed known first channels bits size
+      → Returned o refusal consumed first channels bits size left
+  returned h e = record { numbers = e .numbers ∙ ap (λ (q : Report). numbersOf q) (h .report); samples = h .samples }
+
+  pub frame-v1 : (s : List ℕ) (b : List ℤ) {set : Settings} {r : ReadAnswer} → set ≡ streamSettings s → Reads (read set s b) r left
+      → ReportedAs r refusal consumed known first channels bits size → ReadFrameV1 s b refusal consumed first channels bits size left
+  frame-v1 s b {r = r} f h e = returned (subst (λ (x : Settings). Reads (read x s b) r left) f h) e
+
+  pub frame-v2 : {s : List ℕ} {given block : ℕ} {b : List ℤ} {set : Settings} {r : ReadAnswer} → set ≡ settingsOf given block → Reads (read set s b) r left
+      → ReportedAs r refusal consumed known first channels bits size → ReadFrameV2 s given block b refusal consumed known first channels bits size left
+  frame-v2 {s} {b = b} {r = r} f h e =
+      let t = subst (λ (x : Settings). Reads (read x s b) r left) f h in
+      record { answer = returned t e; flag = e .flag ∙ ap (λ (q : Report). firstKnown (q .first)) (t .report) }
+
+  -- the place moves by the bytes that are reported
+  moves : {s : List ℕ} {place : ℕ} {set : Settings} {b : List ℤ} {r : Step} → Steps s place set b r left
+      → ReportedAs (r .answer) refusal consumed known first channels bits size → r .place ≡ place + consumed
+  moves {place = place} h e = h .next ∙ sym (ap (λ (q : ReadNumbers). place + q .consumed) (returned (h .answer) e .numbers))
+
+  pub next-v1 : {s : List ℕ} {place : ℕ} {b : List ℤ} {set : Settings} {r : Step} → set ≡ streamSettings (drop place s) → Steps s place set b r left
+      → ReportedAs (r .answer) refusal consumed known first channels bits size → ReadNextV1 s place b refusal (r .place) consumed first channels bits size left
+  next-v1 f h e = record { answer = frame-v1 _ _ f (h .answer) e; moved = moves h e }
+
+  pub next-v2 : {s : List ℕ} {place given block : ℕ} {b : List ℤ} {set : Settings} {r : Step} → set ≡ settingsOf given block → Steps s place set b r left
+      → ReportedAs (r .answer) refusal consumed known first channels bits size
+      → ReadNextV2 s place given block b refusal (r .place) consumed known first channels bits size left
+  next-v2 f h e = record { frame = frame-v2 f (h .answer) e; moved = moves h e }
+
+-- ---- what is written, and access to samples
 
 pub outcome-of-case : {o : Written} {r : WriteAnswer} (left : List ℕ) → outcome r left ≡ o → (q : WriteAnswer) → r ≡ q → outcome q left ≡ o
 outcome-of-case left h q e = ap (λ (x : WriteAnswer). outcome x left) (sym e) ∙ h

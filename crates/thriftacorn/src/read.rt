@@ -1,23 +1,52 @@
 // Reading, for other languages: the frame at the start of the bytes, or the one at a place, which then moves past it.
+// The functions of version 2 take what is known of the stream. Those of version 1 take the size of its blocks from the
+// frame that they read, so they say of a first sample what document 01 says.
 use frame::ReadAnswer;
-ghost use Rattle.thriftacorn.specs.Exports.{ReadFrameV1, ReadNextV1};
+use rfc9639::FirstSample;
+use rfc9639::Settings;
+use rfc9639::StreamBlock;
+ghost use mathlib.Core.Path.{_≡_};
+ghost use lib.ListN.{drop};
+ghost use Rattle.rfc9639.specs.FrameByFrame.{streamSettings};
+ghost use Rattle.thriftacorn.specs.Exports.{firstKnown, firstNumber, settingsOf, ReadFrameV1, ReadFrameV2, ReadNextV1, ReadNextV2, StreamBlockV1};
 ghost use Rattle.thriftacorn.specs.Private.{ReportedAs};
+
+// 1 if the number of a first sample is known, else 0.
+fn first_flag(f: FirstSample) -> u32
+    ensures { λ r. ⌜ r ≡ firstKnown f ⌝ }
+{
+    if let FirstSample::Known(_) = f { 1 } else { 0 }
+}
+
+// The number of a first sample, 0 if it is unknown.
+fn first_number(f: FirstSample) -> u64
+    ensures { λ r. ⌜ r ≡ firstNumber f ⌝ }
+{
+    match f {
+        FirstSample::Unknown => 0,
+        FirstSample::Known(n) => n,
+    }
+}
 
 // Stores what an answer reports through the references, and returns its number.
 fn store_report(
     answer: ReadAnswer,
     consumed: &mut usize,
+    known: &mut u32,
     first: &mut u64,
     channels: &mut usize,
     bits: &mut u32,
     size: &mut usize,
 ) -> u8
-    ensures { λ r. ⌜ ReportedAs answer r (now (consumed .exit)) (now (first .exit)) (now (channels .exit)) (now (bits .exit)) (now (size .exit)) ⌝ }
+    ensures { λ r. ⌜ ReportedAs answer r (now (consumed .exit)) (now (known .exit)) (now (first .exit)) (now (channels .exit)) (now (bits .exit))
+        (now (size .exit)) ⌝ }
 {
     match answer {
         ReadAnswer::Frame(f) => {
+            let number = f.first;
             *consumed = f.consumed;
-            *first = f.first;
+            *known = first_flag(number);
+            *first = first_number(number);
             *channels = f.channels;
             *bits = f.bits;
             *size = f.size;
@@ -25,6 +54,7 @@ fn store_report(
         }
         ReadAnswer::Refused(e) => {
             *consumed = 0;
+            *known = 0;
             *first = 0;
             *channels = 0;
             *bits = 0;
@@ -34,7 +64,38 @@ fn store_report(
     }
 }
 
-// Reads the frame at the start of the bytes.
+// The settings that a flag and a size give. A flag other than 0 and 1 gives a size that no stream has, so that reading
+// refuses it.
+fn settings_of(given: u32, size: usize) -> Settings
+    ensures { λ r. ⌜ r ≡ settingsOf given size ⌝ }
+{
+    match given {
+        0 => Settings {
+            block: StreamBlock::Unknown,
+        },
+        1 => Settings {
+            block: StreamBlock::Known(size),
+        },
+        _ => Settings {
+            block: StreamBlock::Known(0),
+        },
+    }
+}
+
+// What the stream that starts at a place of the bytes says about itself. Past the end it says nothing.
+fn settings_at(bytes: &[u8], place: usize) -> Settings
+    ensures { λ r. ⌜ r ≡ streamSettings (drop place (now (bytes .entry))) ⌝ }
+{
+    if place < bytes.len() {
+        walk::stream_settings(&bytes[place..])
+    } else {
+        Settings {
+            block: StreamBlock::Unknown,
+        }
+    }
+}
+
+// Reads the frame at the start of the bytes. The size of the stream's blocks is the frame's own.
 #[no_mangle]
 pub extern "C" fn thriftacorn_read_frame_v1(
     bytes: &[u8],
@@ -48,11 +109,14 @@ pub extern "C" fn thriftacorn_read_frame_v1(
     ensures { λ r. ⌜ ReadFrameV1 (now (bytes .entry)) (now (samples .entry)) r (now (consumed .exit)) (now (first .exit))
         (now (channels .exit)) (now (bits .exit)) (now (size .exit)) (now (samples .exit)) ⌝ }
 {
-    let answer = frame::read_frame(bytes, samples);
-    store_report(answer, consumed, first, channels, bits, size)
+    let own = walk::stream_settings(bytes);
+    let answer = frame::read_frame(bytes, own, samples);
+    let mut known: u32 = 0;
+    store_report(answer, consumed, &mut known, first, channels, bits, size)
 }
 
-// Reads the frame at a place of the bytes, and moves the place past it. A refusal leaves the place as it was.
+// Reads the frame at a place of the bytes, and moves the place past it. A refusal leaves the place as it was. The size
+// of the stream's blocks is the frame's own.
 #[no_mangle]
 pub extern "C" fn thriftacorn_read_next_v1(
     bytes: &[u8],
@@ -67,8 +131,79 @@ pub extern "C" fn thriftacorn_read_next_v1(
     ensures { λ r. ⌜ ReadNextV1 (now (bytes .entry)) (now (place .entry)) (now (samples .entry)) r (now (place .exit)) (now (consumed .exit))
         (now (first .exit)) (now (channels .exit)) (now (bits .exit)) (now (size .exit)) (now (samples .exit)) ⌝ }
 {
-    let step = walk::read_next(bytes, *place, samples);
+    let own = settings_at(bytes, *place);
+    let step = walk::read_next(bytes, *place, own, samples);
     *place = step.place;
     let next = step.answer;
-    store_report(next, consumed, first, channels, bits, size)
+    let mut known: u32 = 0;
+    store_report(next, consumed, &mut known, first, channels, bits, size)
+}
+
+// Reads the frame at the start of the bytes, with the size of the stream's blocks (1, and the size) or without (0).
+#[no_mangle]
+pub extern "C" fn thriftacorn_read_frame_v2(
+    bytes: &[u8],
+    given: u32,
+    block: usize,
+    samples: &mut [i32],
+    consumed: &mut usize,
+    known: &mut u32,
+    first: &mut u64,
+    channels: &mut usize,
+    bits: &mut u32,
+    size: &mut usize,
+) -> u8
+    ensures { λ r. ⌜ ReadFrameV2 (now (bytes .entry)) given block (now (samples .entry)) r (now (consumed .exit)) (now (known .exit))
+        (now (first .exit)) (now (channels .exit)) (now (bits .exit)) (now (size .exit)) (now (samples .exit)) ⌝ }
+{
+    let set = settings_of(given, block);
+    let answer = frame::read_frame(bytes, set, samples);
+    store_report(answer, consumed, known, first, channels, bits, size)
+}
+
+// Reads the frame at a place of the bytes with such settings, and moves the place past it. A refusal leaves the place
+// as it was.
+#[no_mangle]
+pub extern "C" fn thriftacorn_read_next_v2(
+    bytes: &[u8],
+    place: &mut usize,
+    given: u32,
+    block: usize,
+    samples: &mut [i32],
+    consumed: &mut usize,
+    known: &mut u32,
+    first: &mut u64,
+    channels: &mut usize,
+    bits: &mut u32,
+    size: &mut usize,
+) -> u8
+    ensures { λ r. ⌜ ReadNextV2 (now (bytes .entry)) (now (place .entry)) given block (now (samples .entry)) r (now (place .exit))
+        (now (consumed .exit)) (now (known .exit)) (now (first .exit)) (now (channels .exit)) (now (bits .exit)) (now (size .exit))
+        (now (samples .exit)) ⌝ }
+{
+    let settings = settings_of(given, block);
+    let moved = walk::read_next(bytes, *place, settings, samples);
+    *place = moved.place;
+    let next = moved.answer;
+    store_report(next, consumed, known, first, channels, bits, size)
+}
+
+// The size of a stream's blocks, by the header at the start of the bytes: 1 and the size, or 0 and 0 if there is no
+// header.
+#[no_mangle]
+pub extern "C" fn thriftacorn_stream_block_v1(bytes: &[u8], block: &mut usize) -> u32
+    ensures { λ r. ⌜ StreamBlockV1 (now (bytes .entry)) r (now (block .exit)) ⌝ }
+{
+    let stream = walk::stream_settings(bytes);
+    let known = stream.block;
+    match known {
+        StreamBlock::Known(size) => {
+            *block = size;
+            1
+        }
+        StreamBlock::Unknown => {
+            *block = 0;
+            0
+        }
+    }
 }

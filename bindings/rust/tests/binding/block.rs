@@ -1,5 +1,6 @@
 //! Access to a block's samples through the binding: a channel, one sample, a pair, and what is refused.
-use thriftacorn::{read_frame, write_frame, Frame, WriteSettings};
+use crate::read_first;
+use thriftacorn::{write_frame, Frame, WriteSettings};
 
 /// A frame with this many channels and samples per channel, and its samples, which count up from 1.
 fn counted(channels: u32, block_size: usize) -> (Frame, Vec<i32>) {
@@ -8,7 +9,7 @@ fn counted(channels: u32, block_size: usize) -> (Frame, Vec<i32>) {
     let mut out = vec![0; settings.longest()];
     let length = write_frame(&samples, &settings, &mut out).unwrap();
     let mut again = vec![0; samples.len()];
-    let frame = read_frame(&out[..length], &mut again).unwrap();
+    let frame = read_first(&out[..length], &mut again).unwrap();
     assert_eq!((again, frame.samples()), (samples.clone(), samples.len()));
     (frame, samples)
 }

@@ -1,7 +1,7 @@
 //! What each refusal asks of the caller, and an input on which a caller who ignores that finds a frame inside the
 //! sound.
-use crate::{values, Values, WHOLE, WHOLE_VALUES};
-use thriftacorn::{read_frame, write_frame, Frames, Need, Refusal, WriteSettings};
+use crate::{read_first, values, Values, WHOLE, WHOLE_VALUES};
+use thriftacorn::{write_frame, Frames, Need, ReadSettings, Refusal, WriteSettings};
 
 /// The place of RFC 9639's first frame inside the sound.
 const INSIDE: usize = 107;
@@ -20,7 +20,7 @@ fn holding() -> Vec<u8> {
 /// The first place after the start at which a frame is read.
 fn hunt(bytes: &[u8]) -> Option<(usize, Values)> {
     let mut samples = [0; 256];
-    (1..bytes.len()).find_map(|place| Some((place, values(read_frame(&bytes[place..], &mut samples).ok()?))))
+    (1..bytes.len()).find_map(|place| Some((place, values(read_first(&bytes[place..], &mut samples).ok()?))))
 }
 
 #[test]
@@ -44,13 +44,13 @@ fn half_a_frame_waits_though_a_frame_stands_inside_it() {
     assert_eq!((frame.len(), &frame[INSIDE..INSIDE + 15]), (201, &WHOLE[..]));
     let mut samples = [0; 256];
     for length in 0..frame.len() {
-        let refusal = read_frame(&frame[..length], &mut samples).unwrap_err();
+        let refusal = read_first(&frame[..length], &mut samples).unwrap_err();
         assert_eq!(refusal.needs(), Need::Wait, "first {length} bytes");
         assert_eq!(refusal, if length == 0 { Refusal::NothingLeft } else { Refusal::CutShort });
     }
     assert_eq!(hunt(&frame[..INSIDE + 14]), None);
     assert_eq!(hunt(&frame[..161]), Some((INSIDE, WHOLE_VALUES)));
-    assert_eq!(read_frame(&frame, &mut samples).map(values), Ok(HOLDING_VALUES));
+    assert_eq!(read_first(&frame, &mut samples).map(values), Ok(HOLDING_VALUES));
     let sound: Vec<i32> = frame[8..199].iter().map(|&byte| i32::from(byte as i8)).collect();
     assert_eq!(samples[..191], sound[..]);
 }
@@ -64,12 +64,17 @@ fn the_writer_writes_that_frame() {
     assert_eq!(out[..201], frame[..]);
 }
 
-/// Reads an input that arrives in pieces of this length, going by `needs` alone.
+/// Reads an input that arrives in pieces of this length, going by `needs` alone. The first whole header gives the
+/// settings for all pieces.
 fn in_pieces(input: &[u8], length: usize) -> (Vec<Values>, Refusal) {
     let mut pieces = input.chunks(length);
     let (mut window, mut list, mut samples) = (Vec::new(), Vec::new(), [0; 256]);
+    let mut settings = ReadSettings::new();
     loop {
-        let mut frames = Frames::new(&window);
+        if settings.block.is_none() {
+            settings = ReadSettings::of_stream(&window);
+        }
+        let mut frames = Frames::with_settings(&window, settings);
         let refusal = loop {
             match frames.read(&mut samples) {
                 Ok(frame) => list.push(values(frame)),
@@ -86,8 +91,12 @@ fn in_pieces(input: &[u8], length: usize) -> (Vec<Values>, Refusal) {
 
 #[test]
 fn however_an_input_is_cut_its_frames_are_the_same() {
-    let row = [&WHOLE[..], &holding(), &WHOLE, &WHOLE[..14]].concat();
-    let frames = vec![WHOLE_VALUES, HOLDING_VALUES, WHOLE_VALUES];
+    let sound: Vec<i32> = (0..20).collect();
+    let mut last = [0; 64];
+    let length = write_frame(&sound, &WriteSettings::new(0, 16, 20).fixed(3), &mut last).unwrap();
+    let row = [&holding()[..], &WHOLE, &holding(), &last[..length], &WHOLE[..14]].concat();
+    // The stream's blocks have 191 samples, so frame 3 starts at sample 573.
+    let frames = vec![HOLDING_VALUES, WHOLE_VALUES, HOLDING_VALUES, (length, Some(573), 1, 16, 20)];
     for length in 1..=row.len() {
         assert_eq!(in_pieces(&row, length), (frames.clone(), Refusal::CutShort), "pieces of {length}");
     }
@@ -97,13 +106,13 @@ fn however_an_input_is_cut_its_frames_are_the_same() {
 fn more_bytes_and_more_room_do_as_needs_says() {
     let mut samples = [0; 256];
     let longer = [&WHOLE[..], &[0xFF; 40]].concat();
-    assert_eq!(read_frame(&longer, &mut samples[..1]), Err(Refusal::NoRoom));
-    assert_eq!(read_frame(&longer, &mut samples[..2]).map(values), Ok(WHOLE_VALUES));
+    assert_eq!(read_first(&longer, &mut samples[..1]), Err(Refusal::NoRoom));
+    assert_eq!(read_first(&longer, &mut samples[..2]).map(values), Ok(WHOLE_VALUES));
     for place in 0..WHOLE.len() {
         let mut changed = longer.clone();
         changed[place] ^= 0x10;
-        let refusal = read_frame(&changed[..15], &mut samples).unwrap_err();
+        let refusal = read_first(&changed[..15], &mut samples).unwrap_err();
         assert!(refusal.is_final(), "byte {place} changed");
-        assert_eq!(read_frame(&changed, &mut samples), Err(refusal), "byte {place} changed");
+        assert_eq!(read_first(&changed, &mut samples), Err(refusal), "byte {place} changed");
     }
 }

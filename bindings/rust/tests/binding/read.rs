@@ -1,11 +1,11 @@
 //! The reader's answers through the binding, with what the buffer holds after each.
-use crate::{values, Values, WHOLE, WHOLE_VALUES};
-use thriftacorn::{read_frame, Frames, Refusal, ROOM};
+use crate::{read_first, values, Values, WHOLE, WHOLE_VALUES};
+use thriftacorn::{Frames, Refusal, ROOM};
 
 /// What a read answers, and what it leaves of four samples that each held 7.
 fn read(bytes: &[u8]) -> (Result<Values, Refusal>, [i32; 4]) {
     let mut samples = [7; 4];
-    (read_frame(bytes, &mut samples).map(values), samples)
+    (read_first(bytes, &mut samples).map(values), samples)
 }
 
 fn bytes(hex: &str) -> Vec<u8> {
@@ -54,20 +54,20 @@ fn each_refusal_has_its_buffer() {
 fn room_is_needed_for_every_sample() {
     for room in 0..2 {
         let mut samples = vec![7; room];
-        assert_eq!(read_frame(&WHOLE, &mut samples), Err(Refusal::NoRoom));
+        assert_eq!(read_first(&WHOLE, &mut samples), Err(Refusal::NoRoom));
         assert_eq!(samples, vec![7; room]);
     }
     let mut samples = [7; 2];
-    assert_eq!(read_frame(&WHOLE, &mut samples).map(values), Ok(WHOLE_VALUES));
+    assert_eq!(read_first(&WHOLE, &mut samples).map(values), Ok(WHOLE_VALUES));
     assert_eq!(samples, [25588, 10416]);
 }
 
 #[test]
 fn empty_slices_are_lent_like_others() {
-    assert_eq!(read_frame(&[], &mut []), Err(Refusal::NothingLeft));
-    assert_eq!(read_frame(&WHOLE[..1], &mut []), Err(Refusal::CutShort));
-    assert_eq!(read_frame(&Vec::new(), &mut Vec::new()), Err(Refusal::NothingLeft));
-    assert_eq!(read_frame(&WHOLE[15..], &mut [7][1..]), Err(Refusal::NothingLeft));
+    assert_eq!(read_first(&[], &mut []), Err(Refusal::NothingLeft));
+    assert_eq!(read_first(&WHOLE[..1], &mut []), Err(Refusal::CutShort));
+    assert_eq!(read_first(&Vec::new(), &mut Vec::new()), Err(Refusal::NothingLeft));
+    assert_eq!(read_first(&WHOLE[15..], &mut [7][1..]), Err(Refusal::NothingLeft));
 }
 
 #[test]

@@ -1,6 +1,6 @@
 //! The writer's answers through the binding, with what the output holds after each, and that frames read back.
 use crate::values;
-use thriftacorn::{read_frame, write_frame, Blocking, Refusal, WriteSettings};
+use thriftacorn::{read_frame, write_frame, Blocking, ReadSettings, Refusal, WriteSettings};
 
 const ONE: WriteSettings = WriteSettings::new(0, 16, 1);
 
@@ -102,19 +102,34 @@ fn signal(count: usize, bits: u32, kind: u32, seed: &mut u64) -> Vec<i32> {
     (0..count).map(|i| draw(i, seed)).collect()
 }
 
-/// Writes these samples, reads them back, and compares the report with the settings.
+/// The number of the first sample that a frame with these settings must report, in a stream with blocks of this size.
+fn first_of(settings: &WriteSettings, block: Option<usize>) -> Option<u64> {
+    match settings.blocking {
+        Blocking::Fixed => block.map(|size| settings.number * size as u64),
+        Blocking::Variable => Some(settings.number),
+    }
+}
+
+/// Writes these samples, reads them back with the stream's block size unknown, the frame's own and larger, and compares
+/// the report with the settings. With a smaller one the frame must be refused, unless its blocking is variable.
 fn reads_back(samples: &[i32], settings: &WriteSettings) {
     let mut out = vec![0; settings.longest()];
     let length = write_frame(samples, settings, &mut out).unwrap();
-    let mut again = vec![0; samples.len()];
-    let frame = read_frame(&out[..length], &mut again).unwrap();
-    let first_sample = match settings.blocking {
-        Blocking::Fixed => settings.number * settings.block_size as u64,
-        Blocking::Variable => settings.number,
-    };
-    let report = (length, Some(first_sample), settings.channels(), settings.bits, settings.block_size);
-    assert_eq!(values(frame), report);
-    assert!(again == samples, "{settings:?}");
+    let own = settings.block_size;
+    for block in [None, Some(own), Some((own + 1).min(65535)), Some(65535), Some(own - 1).filter(|size| *size > 0)] {
+        let mut given = ReadSettings::new();
+        given.block = block;
+        let mut again = vec![7; samples.len()];
+        let answer = read_frame(&out[..length], &given, &mut again).map(values);
+        if settings.blocking == Blocking::Fixed && block.is_some_and(|size| size < own) {
+            assert_eq!(answer, Err(Refusal::BadShape), "{settings:?} {given:?}");
+            assert!(again.iter().all(|sample| *sample == 7), "{settings:?} {given:?}");
+        } else {
+            let report = (length, first_of(settings, block), settings.channels(), settings.bits, own);
+            assert_eq!(answer, Ok(report), "{settings:?} {given:?}");
+            assert!(again == samples, "{settings:?} {given:?}");
+        }
+    }
 }
 
 #[test]

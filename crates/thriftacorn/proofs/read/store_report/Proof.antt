@@ -2,12 +2,20 @@
 use mathlib.Core.Path.{ap, sym}
 use borrow.Author.Needs.{needs}
 use Rattle.rfc9639.specs.Read.{refusal}
+use Rattle.frame.specs.declared.ReadAnswer.{ReadAnswer}
 use Rattle.frame.specs.Reads.{reportOf}
+use Rattle.thriftacorn.specs.Exports.{firstKnown, numbersOf}
 use Rattle.thriftacorn.proofs.read.store_report.Statement.{statement}
 use Rattle.thriftacorn.proofs.read.store_report.Tie as tie
 
 enum-known-answer : tie.Need-enum-known-answer
 enum-known-answer c = search needs
+
+first-flag-requires : tie.Need-first-flag-requires
+first-flag-requires c κs = search needs
+
+first-number-requires : tie.Need-first-number-requires
+first-number-requires c κs = search needs
 
 enum-known-answer-2 : tie.Need-enum-known-answer-2
 enum-known-answer-2 c = search needs
@@ -16,12 +24,30 @@ number-of-requires : tie.Need-number-of-requires
 number-of-requires c κs = search needs
 
 returns : tie.Need-returns
-returns c = ap reportOf (sym (c .before .answer .given .1))
+returns c =
+    let e = sym (c .before .before .before .answer .given .1) in
+    record {
+      numbers = rw (c .first-number .ensures) (ap (λ (a : ReadAnswer). numbersOf (reportOf a)) e);
+      flag = rw (c .before .first-flag .ensures) (ap (λ (a : ReadAnswer). firstKnown (reportOf a .first)) e);
+    }
 
 returns-2 : tie.Need-returns-2
 unfolding refusal
-returns-2 c = rw (c .number-of .ensures) (ap reportOf (sym (c .before .before .answer2 .given .1)))
+returns-2 c =
+    let e = sym (c .before .before .answer2 .given .1) in
+    record {
+      numbers = rw (c .number-of .ensures) (ap (λ (a : ReadAnswer). numbersOf (reportOf a)) e);
+      flag = ap (λ (a : ReadAnswer). firstKnown (reportOf a .first)) e;
+    }
 
 pub store-report-spec : {M : Type 1} → statement M
 store-report-spec =
-    tie.close (tie.spec enum-known-answer enum-known-answer-2 number-of-requires returns returns-2)
+    tie.close
+    (tie.spec
+    enum-known-answer
+    first-flag-requires
+    first-number-requires
+    enum-known-answer-2
+    number-of-requires
+    returns
+    returns-2)

@@ -1,0 +1,70 @@
+//! What the reader is told about a frame's stream.
+use crate::library;
+
+/// The settings for reading a frame: what is known of its stream. Other crates start from [`ReadSettings::new`] or
+/// [`ReadSettings::of_stream`] and may set each field. There may be more fields later; `new` will set them so that
+/// nothing changes.
+///
+/// With fixed blocking a frame has only its own number, which counts blocks of the stream's size. A stream's last block
+/// may be smaller, so the size of a frame's own block does not say where it belongs:
+///
+/// ```
+/// use thriftacorn::{read_frame, ReadSettings};
+///
+/// // The last frame of RFC 9639's second example. Its number is 1: three samples follow a block of sixteen.
+/// let last = [
+///     0xFF, 0xF8, 0x69, 0x18, 0x01, 0x02, 0xA4, 0x02, 0xC3, 0x82, 0xC4, 0x0B, //
+///     0xC1, 0x4A, 0x03, 0xEE, 0x48, 0xDD, 0x03, 0xB6, 0x7C, 0x13, 0x30,
+/// ];
+/// let mut samples = [0; 6];
+/// let known = read_frame(&last, &ReadSettings::new().with_block(16), &mut samples)?;
+/// assert_eq!((known.block_size, known.first), (3, Some(16)));
+/// let unknown = read_frame(&last, &ReadSettings::new(), &mut samples)?;
+/// assert_eq!((unknown.block_size, unknown.first), (3, None));
+/// # Ok::<(), thriftacorn::Refusal>(())
+/// ```
+#[derive(Clone, Copy, Debug, Default, PartialEq, Eq, Hash)]
+#[non_exhaustive]
+pub struct ReadSettings {
+    /// The size of the stream's blocks, in samples per channel: 1 to 65535, or `None` if it is unknown. Any other size
+    /// is refused with 11 before a byte is read. Only frames with fixed blocking go by it: their first sample's number
+    /// is this size times the frame's, and a block that is larger is refused with 9.
+    pub block: Option<usize>,
+}
+
+impl ReadSettings {
+    /// Nothing is known of the stream.
+    pub const fn new() -> ReadSettings {
+        ReadSettings { block: None }
+    }
+
+    /// The same with this size of the stream's blocks. Nothing is checked here: reading does that.
+    pub const fn with_block(self, size: usize) -> ReadSettings {
+        ReadSettings { block: Some(size), ..self }
+    }
+
+    /// What the beginning of a stream says: the size of its blocks is that of the first, whatever its blocking. It
+    /// takes the frame's header, not the rest of the frame. If the bytes do not start with a header that is whole and
+    /// right, nothing is known.
+    ///
+    /// ```
+    /// use thriftacorn::ReadSettings;
+    /// let header = [0xFF, 0xF8, 0x69, 0x98, 0x00, 0x0F, 0x99];
+    /// assert_eq!(ReadSettings::of_stream(&header), ReadSettings::new().with_block(16));
+    /// assert_eq!(ReadSettings::of_stream(&header[..6]), ReadSettings::new());
+    /// ```
+    pub fn of_stream(bytes: &[u8]) -> ReadSettings {
+        let mut block = 0;
+        // SAFETY: as `library` requires.
+        let given = unsafe { library::thriftacorn_stream_block_v1(bytes.as_ptr(), bytes.len(), &mut block) };
+        ReadSettings { block: (given == 1).then_some(block) }
+    }
+
+    /// The block as the library takes it: whether it is given, and its size.
+    pub(crate) fn given_block(&self) -> (u32, usize) {
+        match self.block {
+            Some(size) => (1, size),
+            None => (0, 0),
+        }
+    }
+}
