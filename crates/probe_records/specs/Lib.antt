@@ -1,3 +1,2 @@
 -- Numbers as bytes, lowest byte first.
-pub mod FirstKnown
 pub mod LittleEndian

@@ -7,7 +7,7 @@ ghost use Prim.Native.Nat.{_+_, _*_, _%_};
 ghost use Rattle.rfc9639.specs.Integers.{low, wrapped};
 ghost use lib.IntN.{pos};
 ghost use Rattle.probe_records.specs.LittleEndian.{little};
-ghost use Rattle.probe_records.specs.FirstKnown.{firstKnown, firstOrZero};
+ghost use Rattle.rfc9639.specs.Stream.{firstKnown, firstNumber};
 
 // The low byte.
 fn low_byte(v: u64) -> u8
@@ -27,8 +27,8 @@ fn first_known(first: FirstSample) -> u64
 }
 
 // The number of a frame's first sample, and 0 where it is unknown.
-fn first_or_zero(first: FirstSample) -> u64
-    ensures { λ r. ⌜ r ≡ firstOrZero first ⌝ }
+fn first_number(first: FirstSample) -> u64
+    ensures { λ r. ⌜ r ≡ firstNumber first ⌝ }
 {
     match first {
         FirstSample::Unknown => 0,
@@ -46,10 +46,10 @@ pub fn answer_bytes(
     bits: u64,
     size: u64,
 ) -> [u8; 18]
-    ensures { λ r. ⌜ r ≡ number ∷ (little 4 consumed ++ (little 1 (firstKnown first) ++ (little 8 (firstOrZero first) ++ (little 1 channels ++ (little 1 bits ++ little 2 size))))) ⌝ }
+    ensures { λ r. ⌜ r ≡ number ∷ (little 4 consumed ++ (little 1 (firstKnown first) ++ (little 8 (firstNumber first) ++ (little 1 channels ++ (little 1 bits ++ little 2 size))))) ⌝ }
 {
     let known = first_known(first);
-    let start = first_or_zero(first);
+    let start = first_number(first);
     [
         number,
         low_byte(consumed),

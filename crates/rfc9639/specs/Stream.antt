@@ -30,3 +30,12 @@ unfoldable pub firstSample : StreamBlock → BlockTime → FirstSample
 firstSample block (SampleNumber n) = FirstSample.Known n
 firstSample (StreamBlock.Known size) (FrameNumber n) = FirstSample.Known (size * n)
 firstSample StreamBlock.Unknown (FrameNumber n) = FirstSample.Unknown
+
+-- the same as two plain numbers: whether it is known, 1 or 0, and the number, or 0 if it is unknown
+abbrev pub firstKnown : FirstSample → ℕ
+firstKnown FirstSample.Unknown = 0
+firstKnown (FirstSample.Known n) = 1
+
+abbrev pub firstNumber : FirstSample → ℕ
+firstNumber FirstSample.Unknown = 0
+firstNumber (FirstSample.Known n) = n

@@ -19,7 +19,8 @@ use Rattle.walk.specs.declared.Step.{Step}
 use Rattle.walk.specs.Steps.{Steps}
 use Rattle.frame_writer.specs.declared.WriteAnswer.{WriteAnswer}
 use Rattle.frame_writer.specs.Outcomes.{outcome}
-use Rattle.thriftacorn.specs.Exports.{firstKnown, blockKnown, blockNumber, settingsOf, ReadNumbers, numbersOf, Returned, ReadFrameV1, ReadNextV1, ReadFrameV2, ReadNextV2, StreamBlockV1}
+use Rattle.rfc9639.specs.Stream.{firstKnown}
+use Rattle.thriftacorn.specs.Exports.{blockKnown, blockNumber, settingsOf, ReadNumbers, numbersOf, Returned, ReadFrameV1, ReadNextV1, ReadFrameV2, ReadNextV2, StreamBlockV1}
 use Rattle.thriftacorn.specs.Private.{ReportedAs}
 
 -- ---- the settings of a stream

@@ -11,6 +11,7 @@ use Rattle.reading.specs.Readers.{if_then_else_}
 use Rattle.rfc9639.specs.declared.FirstSample.{FirstSample}
 use Rattle.rfc9639.specs.declared.Settings.{Settings}
 use Rattle.rfc9639.specs.declared.StreamBlock.{StreamBlock}
+use Rattle.rfc9639.specs.Stream.{firstKnown, firstNumber}
 use Rattle.rfc9639.specs.Read.{Report, Outcome, read}
 use Rattle.rfc9639.specs.FrameByFrame.{streamSettings}
 use Rattle.rfc9639.specs.Write.{Written, write}
@@ -18,15 +19,7 @@ use Rattle.frame_limits.specs.Longest.{longestOf}
 use Rattle.block.specs.BlockAccess.{channelOf, sampleOf, pairOf}
 use Rattle.block.specs.Reports.{ChannelReport, SampleReport, PairReport, channelReport, sampleReport, pairReport}
 
--- ---- what is known, in plain numbers: a flag, 0 or 1, and a number that is 0 where the flag is
-
-abbrev pub firstKnown : FirstSample → ℕ
-firstKnown FirstSample.Unknown = 0
-firstKnown (FirstSample.Known n) = 1
-
-abbrev pub firstNumber : FirstSample → ℕ
-firstNumber FirstSample.Unknown = 0
-firstNumber (FirstSample.Known n) = n
+-- ---- the stream's block in plain numbers: a flag, 0 or 1, and a size that is 0 where the flag is
 
 abbrev pub blockKnown : StreamBlock → ℕ
 blockKnown StreamBlock.Unknown = 0

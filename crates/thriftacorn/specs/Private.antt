@@ -3,7 +3,8 @@ use Prim.Native.Nat.{ℕ}
 use mathlib.Core.Path.{_≡_}
 use Rattle.frame.specs.declared.ReadAnswer.{ReadAnswer}
 use Rattle.frame.specs.Reads.{reportOf}
-use Rattle.thriftacorn.specs.Exports.{firstKnown, ReadNumbers, numbersOf}
+use Rattle.rfc9639.specs.Stream.{firstKnown}
+use Rattle.thriftacorn.specs.Exports.{ReadNumbers, numbersOf}
 
 -- the numbers that an answer reports
 pub record ReportedAs (answer : ReadAnswer) (refusal consumed known first channels bits size : ℕ) : Type 0 where

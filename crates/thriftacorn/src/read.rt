@@ -7,12 +7,13 @@ use rfc9639::Settings;
 use rfc9639::StreamBlock;
 ghost use mathlib.Core.Path.{_≡_};
 ghost use lib.ListN.{drop};
+ghost use Rattle.rfc9639.specs.Stream.{firstKnown, firstNumber};
 ghost use Rattle.rfc9639.specs.FrameByFrame.{streamSettings};
-ghost use Rattle.thriftacorn.specs.Exports.{firstKnown, firstNumber, settingsOf, ReadFrameV1, ReadFrameV2, ReadNextV1, ReadNextV2, StreamBlockV1};
+ghost use Rattle.thriftacorn.specs.Exports.{settingsOf, ReadFrameV1, ReadFrameV2, ReadNextV1, ReadNextV2, StreamBlockV1};
 ghost use Rattle.thriftacorn.specs.Private.{ReportedAs};
 
 // 1 if the number of a first sample is known, else 0.
-fn first_flag(f: FirstSample) -> u32
+fn first_known(f: FirstSample) -> u32
     ensures { λ r. ⌜ r ≡ firstKnown f ⌝ }
 {
     if let FirstSample::Known(_) = f { 1 } else { 0 }
@@ -45,7 +46,7 @@ fn store_report(
         ReadAnswer::Frame(f) => {
             let number = f.first;
             *consumed = f.consumed;
-            *known = first_flag(number);
+            *known = first_known(number);
             *first = first_number(number);
             *channels = f.channels;
             *bits = f.bits;

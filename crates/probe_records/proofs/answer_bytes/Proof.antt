@@ -9,8 +9,8 @@ use Rattle.probe_records.proofs.answer_bytes.Tie as tie
 first-known-requires : tie.Need-first-known-requires
 first-known-requires c κs = search needs
 
-first-or-zero-requires : tie.Need-first-or-zero-requires
-first-or-zero-requires c κs = search needs
+first-number-requires : tie.Need-first-number-requires
+first-number-requires c κs = search needs
 
 low-byte-requires : tie.Need-low-byte-requires
 low-byte-requires c κs = search needs
@@ -103,14 +103,14 @@ returns c =
     (ap₂ _∷_ (c .low-byte17 .ensures)
     refl)))))))))))))))))
     ∙ ap₂ (λ known first. args .number ∷ (little 4 (args .consumed) ++ (little 1 known ++ (little 8 first ++ (little 1 (args .channels) ++ (little 1 (args .bits) ++ little 2 (args .size)))))))
-    (start .before .first-known .ensures) (start .first-or-zero .ensures)
+    (start .before .first-known .ensures) (start .first-number .ensures)
 
 pub answer-bytes-spec : {M : Type 1} → statement M
 answer-bytes-spec =
     tie.close
     (tie.spec
     first-known-requires
-    first-or-zero-requires
+    first-number-requires
     low-byte-requires
     low-byte-requires-2
     low-byte-requires-3

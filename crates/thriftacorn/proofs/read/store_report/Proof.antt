@@ -4,15 +4,16 @@ use borrow.Author.Needs.{needs}
 use Rattle.rfc9639.specs.Read.{refusal}
 use Rattle.frame.specs.declared.ReadAnswer.{ReadAnswer}
 use Rattle.frame.specs.Reads.{reportOf}
-use Rattle.thriftacorn.specs.Exports.{firstKnown, numbersOf}
+use Rattle.rfc9639.specs.Stream.{firstKnown}
+use Rattle.thriftacorn.specs.Exports.{numbersOf}
 use Rattle.thriftacorn.proofs.read.store_report.Statement.{statement}
 use Rattle.thriftacorn.proofs.read.store_report.Tie as tie
 
 enum-known-answer : tie.Need-enum-known-answer
 enum-known-answer c = search needs
 
-first-flag-requires : tie.Need-first-flag-requires
-first-flag-requires c κs = search needs
+first-known-requires : tie.Need-first-known-requires
+first-known-requires c κs = search needs
 
 first-number-requires : tie.Need-first-number-requires
 first-number-requires c κs = search needs
@@ -28,7 +29,7 @@ returns c =
     let e = sym (c .before .before .before .answer .given .1) in
     record {
       numbers = rw (c .first-number .ensures) (ap (λ (a : ReadAnswer). numbersOf (reportOf a)) e);
-      flag = rw (c .before .first-flag .ensures) (ap (λ (a : ReadAnswer). firstKnown (reportOf a .first)) e);
+      flag = rw (c .before .first-known .ensures) (ap (λ (a : ReadAnswer). firstKnown (reportOf a .first)) e);
     }
 
 returns-2 : tie.Need-returns-2
@@ -45,7 +46,7 @@ store-report-spec =
     tie.close
     (tie.spec
     enum-known-answer
-    first-flag-requires
+    first-known-requires
     first-number-requires
     enum-known-answer-2
     number-of-requires
