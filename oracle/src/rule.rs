@@ -38,8 +38,8 @@ pub struct Head {
 }
 
 impl Head {
-    /// The header at the start of these bytes. Whether it is right, claxon tells when it reads the header alone: it then
-    /// wants more bytes, or the bits that a header without them leaves to the stream.
+    /// The header at the start of these bytes. Whether it is right, claxon tells when it reads the header alone: it
+    /// then wants more bytes, or the bits that a header without them leaves to the stream.
     pub fn of(bytes: &[u8]) -> Option<Head> {
         // A number that starts with FF, claxon alone takes.
         if bytes.len() < 5 || bytes[4] == 0xFF {

@@ -53,8 +53,8 @@ impl Sample {
     }
 }
 
-/// What `runner` must write, from claxon's answers. With fixed blocking it goes by the first frame's block size; `None` if
-/// one of the frames is on the list of differences for another reason.
+/// What `runner` must write, from claxon's answers. With fixed blocking it goes by the first frame's block size; `None`
+/// if one of the frames is on the list of differences for another reason.
 pub fn render(bytes: &[u8]) -> Option<Vec<u8>> {
     let bytes = &bytes[..bytes.len().min(RUNNER_BYTES)];
     let settings = stream_settings(Head::of(bytes).as_ref());

@@ -24,7 +24,8 @@ pub enum Refusal {
     /// 8: a part of the format that is not supported: a bit depth given only in the stream's header, 32 bits, a negative
     /// prediction shift.
     NotDone = 8,
-    /// 9: sizes that contradict each other: those in the frame, or a block larger than the stream's with fixed blocking.
+    /// 9: sizes that contradict each other: those in the frame, or with fixed blocking a block larger than the
+    /// stream's.
     BadShape = 9,
     /// 10: the frame's CRC-16 differs.
     FrameSum = 10,

@@ -85,8 +85,8 @@ impl WriteSettings {
 }
 
 /// Writes one frame to the front of `out` and returns its length. `samples` are given channel after channel: for two
-/// channels left, then right, whatever the channel code. Reading the frame gives these samples back, unless it has fixed
-/// blocking and [`ReadSettings::block`](crate::ReadSettings::block) is below its block size.
+/// channels left, then right, whatever the channel code. Reading the frame gives these samples back, unless it has
+/// fixed blocking and [`ReadSettings::block`](crate::ReadSettings::block) is below its block size.
 ///
 /// Past the frame `out` is untouched. A refusal leaves all of `out` untouched. They are checked in this order:
 ///
