@@ -189,7 +189,7 @@ def differences():
         cells = [cell.strip() for cell in line.split("|")]
         if len(cells) > 3 and cells[2].startswith("`FF"):
             text, block = form.fullmatch(cells[2]).groups()
-            name = "difference-" + cells[1].replace(" ", "-").replace(",", "")
+            name = "difference-" + cells[1].replace(" ", "-").replace(",", "").replace("'", "")
             yield name, bytes.fromhex(text), None if block is None else int(block)
 
 
