@@ -113,23 +113,32 @@ returns-4 c =
     let r = c .before .before in let i = r .before in let e = i .before in let k = checked e in
     no-first-bit (set k) (bytes k) (lent k) (ok k) (header-is k) (deep e) (within e) (fits i) (bit-is (bytes k) _ (r .read-bits .ensures) (c .enum-told2 .given .1))
 
+-- The product fits with the stream's size, and with the block's own: so a reader that takes its own is refused by the
+-- promise, and not here.
+first-sample-requires : tie.Need-first-sample-requires
+first-sample-requires c κs =
+    let k = checked (c .before .before .before .before) in
+    let own : Settings = record { block = StreamBlock.Known (start k .args .h .size) } in
+    let number = sound k .number in
+    search (needs, first-fits (set k) _ (ok k) number, first-fits own _ (size-possible (sound k .some) (sound k .size)) number)
+
 slice-relend-prefix-decode-body : tie.Need-slice-relend-prefix-decode-body
 slice-relend-prefix-decode-body c = search needs
 
 slice-aggregate-decode-body : tie.Need-slice-aggregate-decode-body
 slice-aggregate-decode-body c =
-    let i = c .before .before .before .before in let k = checked (i .before) in
+    let i = c .before .before .before .before .before in let k = checked (i .before) in
     sym (length-take-le (count k) (lent k) (i .if3 .left))
 
 decode-body-requires : tie.Need-decode-body-requires
 decode-body-requires c κs =
-    let i = c .before .before .before .before in let k = checked (i .before) in
+    let i = c .before .before .before .before .before in let k = checked (i .before) in
     (sound k .mono, sound k .bits, part-is k (i .if3 .left))
 
 -- a body whose decoding has begun
 module _ (c : tie.After-decode-body) where
   abbrev after-bit : tie.After-enum-told
-  after-bit = c .before .before
+  after-bit = c .before .before .before
 
   abbrev inner : tie.Else3
   inner = after-bit .before .before .before
@@ -157,15 +166,6 @@ module _ (c : tie.After-decode-body) where
 enum-known-decoded : tie.Need-enum-known-decoded
 enum-known-decoded c = search needs
 
--- The product fits with the stream's size, and with the block's own: so a reader that takes its own is refused by the
--- promise, and not here.
-first-sample-requires : tie.Need-first-sample-requires
-first-sample-requires c κs =
-    let k = known (c .before .before .before .before) in
-    let own : Settings = record { block = StreamBlock.Known (start k .args .h .size) } in
-    let number = sound k .number in
-    search (needs, first-fits (set k) _ (ok k) number, first-fits own _ (size-possible (sound k .some) (sound k .size)) number)
-
 enum-known-decoded-2 : tie.Need-enum-known-decoded-2
 enum-known-decoded-2 c = search needs
 
@@ -174,9 +174,9 @@ same-length c = search needs
 
 returns-5 : tie.Need-returns-5
 returns-5 c =
-    let g = c .before .before in let d = g .before .before .before in let t = after-bit d in let k = known d in
+    let g = c .before in let d = g .before .before .before in let t = after-bit d in let k = known d in
     body-read (set k) (bytes k) (lent k) (ok k) (header-is k) (deep (inner d .before)) (within (inner d .before)) (fits (inner d)) (bit-is (bytes k) _ (t .before .before .read-bits .ensures) (t .enum-told .given .1))
-    (left d) (stands d) (g .decoded .given .1) (long d) (c .first-sample .ensures) (k .channel-count .ensures)
+    (left d) (stands d) (g .decoded .given .1) (long d) (d .before .before .first-sample .ensures) (k .channel-count .ensures)
 
 same-length-2 : tie.Need-same-length-2
 same-length-2 c = search needs
@@ -201,11 +201,11 @@ read-body-spec =
     enum-told
     enum-told-2
     returns-4
+    first-sample-requires
     slice-relend-prefix-decode-body
     slice-aggregate-decode-body
     decode-body-requires
     enum-known-decoded
-    first-sample-requires
     enum-known-decoded-2
     same-length
     returns-5
