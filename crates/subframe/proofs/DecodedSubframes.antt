@@ -6,9 +6,9 @@ use mathlib.Core.Path.{_≡_, refl, ap, ap₂, sym, _∙_, subst}
 use mathlib.Core.List.{List, [], _∷_, _++_, map, append-nil}
 use borrow.Author.Tests.{le-leb, lt-leb}
 use borrow.Rule.Slice.PartMut.{putMid}
-use lib.IntN.{ℤ, pos, negsuc}
+use lib.IntN.{ℤ, pos, negsuc, one, *ℤ-one}
 use lib.ListN.{length, take, drop, getD, set, replicate, length-set}
-use lib.Seq.{take-suc-set, drop-set-lt, drop-cons, append-snoc, take-all, drop-length}
+use lib.Seq.{take-suc-set, drop-set-lt, drop-cons, append-snoc, take-all, drop-length, set-getD}
 use mir.Syntax.{w32}
 use mir.Val.{SFits, toZ, ofZ}
 use mir.Facts.{toZ-ofZ}
@@ -25,7 +25,7 @@ use Rattle.rfc9639.specs.Integers.{signedBits, shiftUp}
 use Rattle.rfc9639.specs.Residual.{residual}
 use Rattle.rfc9639.specs.Prediction.{predict}
 use Rattle.rfc9639.specs.Subframe.{orderOf, samplesByType, subframe, subframeAfterHeader}
-use Rattle.rfc9639.proofs.Widths.{Fits, fits-mono, signed-fits}
+use Rattle.rfc9639.proofs.Widths.{Fits, fits-mono, signed-fits, of-sfits, shiftUp-exact}
 use Rattle.subframe.specs.declared.Decoded.{Decoded}
 use Rattle.subframe.specs.declared.Decoded.the-variants.{Done, Refused}
 use Rattle.subframe.specs.declared.answers.SampleRead.{SampleRead}
@@ -63,12 +63,21 @@ module _ {f : ℤ → ℤ} {l₀ l : List ℤ} {i : ℕ} (inv : Mapped f l₀ l 
       → Mapped f l₀ (set l i (toZ w32 (ofZ w32 z))) (i + 1)
   turn z h e g k = rw (toZ-ofZ k) (step z h (e ∙ ap f (toZ-ofZ g)))
 
+  -- a value that stays as it is
+  pub kept : i < length l → getD l i (pos 0) ≡ f (getD l i (pos 0)) → Mapped f l₀ l (i + 1)
+  kept h e = rw set-getD at (step (getD l i (pos 0)) h e)
+
   pub end : length l ≤ i → l ≡ map f l₀
   end h =
       sym (inv .same ∙ ap₂ (λ (a b : List ℤ). a ++ map f b) (take-all i l h) none ∙ append-nil l)
     where
       none : drop i l ≡ []
       none = ap (λ n. drop n l) (let e : i ≡ length l = omega (arith, inv .within) in e) ∙ drop-length l
+
+-- without wasted bits a sample stays as it is
+pub shift-none : {k : ℕ} {z : ℤ} → k ≡ 0 → SFits w32 z → z ≡ shiftUp k z
+unfolding one
+shift-none {k} {z} e f = sym (ap (λ n. shiftUp n z) e ∙ shiftUp-exact {w = 32} (omega arith) (of-sfits f) 0 (omega arith) ∙ *ℤ-one z)
 
 -- ---- a predictor's block
 

@@ -140,13 +140,17 @@ fn decode_kind(s: &[u8], at: Place, kind: SubframeType, width: u32, out: &mut [i
     }
 }
 
-// Puts the wasted bits back, as zeros (RFC 9639 section 9.2.2).
+// Puts the wasted bits back, as zeros (RFC 9639 section 9.2.2). Mostly there are none, and no sample is written: the
+// compiler then leaves the loop out.
 fn shift_all(out: &mut [i32], wasted: u32)
     ensures { λ r. ⌜ now (out .exit) ≡ map (shiftUp wasted) (now (out .entry)) ⌝ }
 {
     let mut i = 0;
     while i < out.len() {
-        out[i] = number::shift_up(out[i], wasted);
+        let x = out[i];
+        if wasted != 0 {
+            out[i] = number::shift_up(x, wasted);
+        }
         i += 1;
     }
 }
