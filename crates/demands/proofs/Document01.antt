@@ -23,8 +23,9 @@ use Rattle.rfc9639.specs.Stream.{possible, blockFits, firstSample}
 use Rattle.rfc9639.specs.Frame.{ReaderSettings, opening, body, Frame, frame}
 use Rattle.rfc9639.specs.Read.{Report, accepted, Result, untouched, zeroed, cutShort, begun, finished, resultOf, result}
 use Rattle.rfc9639.specs.FrameByFrame.{streamSettings}
+use Rattle.demands.proofs.Headers.{header-sound}
 use Rattle.demands.proofs.FrameRuns.{alike-after}
-use Rattle.demands.proofs.StreamSettings.{size-possible, header-sound, header-settings, stream-possible}
+use Rattle.demands.proofs.StreamSettings.{size-possible, header-settings, stream-possible}
 
 -- ---- document 01's reading: as it was before there were settings
 

@@ -2,13 +2,16 @@
 use Prim.Native.Nat.{ℕ, zero, suc, _+_, _*_, _%_, _^_, _≤_, _<_}
 use native.Mathlib.Nat.{pow-suc, mul-assoc, mul-comm, lt-of-lt-of-le, mul-le-mul-right, mul-one}
 use native.Mathlib.Omega.{arith}
-use mathlib.Core.Path.{_≡_, refl}
+use mathlib.Core.Path.{_≡_, refl, subst}
 use mathlib.Core.Bool.{Bool, true, false}
+use mathlib.Core.List.{List}
 use borrow.Author.Tests.{ltb-true, leb-true, eqb-true}
 use lib.Dec.{leb, ltb, eqb}
 use lib.Pow.{pow-mono, pow-pos}
+use Rattle.reading.specs.declared.Place.{Place}
 use Rattle.reading.specs.Readers.{bits, if_then_else_}
-use Rattle.reading.proofs.Postconditions.{Holds, value, refusal, holds-bind, holds-weaken, holds-bits, holds-passed, holds-require, holds-if}
+use Rattle.reading.specs.Places.{gotAt, placeOf, runAt}
+use Rattle.reading.proofs.Postconditions.{Holds, Meets, holds-at, value, refusal, holds-bind, holds-weaken, holds-bits, holds-passed, holds-require, holds-if}
 use Rattle.rfc9639.specs.declared.BlockTime.{BlockTime}
 use Rattle.rfc9639.specs.declared.BlockTime.the-variants.{FrameNumber, SampleNumber}
 use Rattle.rfc9639.specs.declared.Codes.{Codes}
@@ -183,3 +186,6 @@ header-holds =
       bits = k .bits;
       number = below;
     }))))))
+
+pub header-sound : (s : List ℕ) {h : FrameHeader} {p : Place} → runAt header s (placeOf 0) ≡ gotAt h p → Sound h
+header-sound s e = subst (Meets Early Sound) e (holds-at Early Sound s (placeOf 0) header-holds)

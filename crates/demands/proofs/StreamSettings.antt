@@ -3,20 +3,19 @@
 use Prim.Native.Nat.{ℕ, _≤_}
 use native.Mathlib.Omega.{arith}
 use mathlib.Core.Bool.{true}
-use mathlib.Core.Path.{_≡_, refl, ap, sym, _∙_, subst}
+use mathlib.Core.Path.{_≡_, refl, ap}
 use mathlib.Core.List.{List, _++_}
 use borrow.Author.Tests.{le-leb, lt-ltb}
 use Rattle.reading.specs.declared.Place.{Place}
 use Rattle.reading.specs.Places.{At, gotAt, refusedAt, shortAt, runAt, placeOf}
 use Rattle.reading.proofs.BytePrefixes.{runAt-append}
-use Rattle.reading.proofs.Postconditions.{Meets, holds-at}
 use Rattle.rfc9639.specs.declared.FrameHeader.{FrameHeader}
 use Rattle.rfc9639.specs.declared.Settings.{Settings}
 use Rattle.rfc9639.specs.declared.StreamBlock.{StreamBlock}
 use Rattle.rfc9639.specs.Header.{header}
 use Rattle.rfc9639.specs.Stream.{inRange, possible}
 use Rattle.rfc9639.specs.FrameByFrame.{blockIn, streamSettings}
-use Rattle.demands.proofs.Headers.{Early, Sound, header-holds}
+use Rattle.demands.proofs.Headers.{header-sound}
 
 -- the size of a block is one that a stream can have
 pub size-possible : {n : ℕ} → 1 ≤ n → n ≤ 65535 → possible (record { block = StreamBlock.Known n }) ≡ true
@@ -36,16 +35,13 @@ module _ (s : List ℕ) where
   unfolding streamSettings blockIn
   short-settings e = ap (λ x. record { block = blockIn x }) e
 
-  pub header-sound : {h : FrameHeader} {p : Place} → runAt header s (placeOf 0) ≡ gotAt h p → Sound h
-  header-sound e = subst (Meets Early Sound) e (holds-at Early Sound s (placeOf 0) header-holds)
-
   -- a stream can have them
   pub stream-possible : possible (streamSettings s) ≡ true
   unfolding possible streamSettings blockIn inRange
   stream-possible = go (runAt header s (placeOf 0)) refl
     where
       go : (x : At FrameHeader) → runAt header s (placeOf 0) ≡ x → possible (record { block = blockIn x }) ≡ true
-      go (gotAt h p) e = size-possible (header-sound e .some) (header-sound e .size)
+      go (gotAt h p) e = size-possible (header-sound s e .some) (header-sound s e .size)
       go (refusedAt n) e = refl
       go shortAt e = refl
 

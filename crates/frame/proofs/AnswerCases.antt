@@ -9,10 +9,8 @@ use lib.Dec.{eqb}
 use lib.IntN.{ℤ, pos}
 use lib.ListN.{length, drop, replicate, length-replicate}
 use Rattle.reading.specs.declared.Place.{Place}
-use Rattle.reading.specs.Readers.{bits, run, reply, follow, bitsFrom}
-use Rattle.reading.specs.Bytes.{bitsOfBytes}
-use Rattle.reading.specs.Places.{placeOf, gotAt, refusedAt, shortAt, toAt, inside, runAt}
-use Rattle.reading.proofs.ByteRuns.{bind-short}
+use Rattle.reading.specs.Readers.{bits}
+use Rattle.reading.specs.Places.{placeOf, gotAt, refusedAt, shortAt, runAt}
 use Rattle.error.specs.declared.Refusal.{Refusal}
 use Rattle.error.specs.declared.Refusal.the-variants.{NothingLeft, CutShort, NoRoom, NotDone, BadShape, BadArgument}
 use Rattle.error.specs.Numbers.{numberOf, refusedBy}
@@ -20,10 +18,11 @@ use Rattle.rfc9639.specs.declared.FirstSample.{FirstSample}
 use Rattle.rfc9639.specs.declared.FrameHeader.{FrameHeader}
 use Rattle.rfc9639.specs.declared.Settings.{Settings}
 use Rattle.rfc9639.specs.HeaderCodes.{channelCount}
-use Rattle.rfc9639.specs.Header.{sync, codes, header, sampleCount}
+use Rattle.rfc9639.specs.Header.{header, sampleCount}
 use Rattle.rfc9639.specs.Stream.{possible, blockFits, firstSample}
 use Rattle.rfc9639.specs.Frame.{ReaderSettings, body}
 use Rattle.rfc9639.specs.Read.{accepted, Result, untouched, zeroed, cutShort, result, read}
+use Rattle.demands.proofs.FrameByFrame.{no-header as empty-header}
 use Rattle.demands.proofs.ResultCases as cases
 use Rattle.subframe.specs.declared.Decoded.{Decoded}
 use Rattle.subframe.specs.declared.Decoded.the-variants.{Done, Refused}
@@ -34,15 +33,9 @@ use Rattle.frame.specs.Reads.{reportOf, Reads}
 
 -- ---- an input of no bytes
 
-no-bytes : (s : List ℕ) → length s ≡ 0 → runAt (bits 16) s (placeOf 0) ≡ shortAt
-unfolding runAt inside toAt run bits reply follow bitsFrom bitsOfBytes
-no-bytes [] e = refl
-no-bytes (x ∷ s) e = absurd (omega arith)
-
 no-header : (s : List ℕ) → length s ≡ 0 → runAt header s (placeOf 0) ≡ shortAt
-unfolding header codes sync
-no-header s e =
-    bind-short codes s (placeOf 0) _ (bind-short sync s (placeOf 0) _ (bind-short (bits 16) s (placeOf 0) _ (no-bytes s e)))
+no-header [] e = empty-header
+no-header (x ∷ s) e = absurd (omega arith)
 
 cutShort-empty : (s : List ℕ) → length s ≡ 0 → cutShort s ≡ 1
 unfolding cutShort

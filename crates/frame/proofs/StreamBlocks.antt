@@ -4,7 +4,7 @@ use Prim.Native.Nat.{ℕ, _*_, _^_, _≤_, _<_}
 use native.Mathlib.Nat.{mul-le-mul, lt-of-le-of-lt}
 use native.Mathlib.Omega.{arith}
 use mathlib.Core.Path.{_≡_, refl}
-use mathlib.Core.Bool.{Bool, true, false, not, _&&_}
+use mathlib.Core.Bool.{Bool, true, false, _&&_}
 use borrow.Author.Tests.{leb-true, lt-ltb, le-ltb}
 use lib.Dec.{leb, ltb}
 use Rattle.rfc9639.specs.declared.BlockTime.{BlockTime}
@@ -15,16 +15,6 @@ use Rattle.rfc9639.specs.declared.StreamBlock.{StreamBlock}
 use Rattle.rfc9639.specs.Stream.{inRange, possible, blockFits, firstSample}
 use Rattle.demands.proofs.Headers.{numberIn}
 use Rattle.frame.specs.Private.{FitsU64}
-
--- ---- what a negated test says
-
-pub not-true : {b : Bool} → not b ≡ true → b ≡ false
-not-true {b = false} e = refl
-not-true {b = true} e = absurd (let z : _≡_ {A = ℕ} 0 1 = cc in omega arith)
-
-pub not-false : {b : Bool} → not b ≡ false → b ≡ true
-not-false {b = true} e = refl
-not-false {b = false} e = absurd (let z : _≡_ {A = ℕ} 0 1 = cc in omega arith)
 
 -- ---- by the cases of the block and of the time
 

@@ -12,11 +12,10 @@ use Rattle.reading.specs.Places.{gotAt, refusedAt, runAt, placeOf}
 use Rattle.reading.proofs.Postconditions.{Meets, holds-at}
 use Rattle.rfc9639.specs.declared.BlockTime.the-variants.{FrameNumber, SampleNumber}
 use Rattle.rfc9639.specs.declared.Codes.{Codes}
-use Rattle.rfc9639.specs.declared.FrameHeader.{FrameHeader}
 use Rattle.rfc9639.specs.Number.{codedNumber}
 use Rattle.rfc9639.specs.HeaderCodes.{rateBits}
-use Rattle.rfc9639.specs.Header.{timeOf, codes, blockTime, header}
-use Rattle.demands.proofs.Headers.{Early, CodesInRange, codes-holds, Sound, header-holds}
+use Rattle.rfc9639.specs.Header.{timeOf, codes, blockTime}
+use Rattle.demands.proofs.Headers.{Early, CodesInRange, codes-holds}
 use Rattle.header.proofs.ReaderSteps.{check-fails, check-done}
 use Rattle.header.proofs.ByteAlignment.{moves-at, codes-whole}
 
@@ -62,8 +61,3 @@ module _ (s : List ℕ) {c : Codes} {p : Place} (e : runAt codes s (placeOf 0) �
 
   pub codes-aligned : p .bit ≡ 0
   codes-aligned = moves-at s codes (placeOf 0) codes-whole refl e
-
--- ---- a header that was read, for the reader of its frame
-
-pub header-sound : (s : List ℕ) {h : FrameHeader} {p : Place} → runAt header s (placeOf 0) ≡ gotAt h p → Sound h
-header-sound s e = subst (Meets Early Sound) e (holds-at Early Sound s (placeOf 0) header-holds)

@@ -6,6 +6,7 @@ use mathlib.Core.Bool.{true}
 use mathlib.Core.Path.{_≡_, ap, sym, _∙_, subst}
 use mathlib.Core.List.{List, _++_}
 use borrow.Author.Needs.{needs}
+use borrow.Author.Tests.{not-true, not-false}
 use lib.IntN.{ℤ}
 use lib.ListN.{length, take, drop}
 use lib.Seq.{length-take-le}
@@ -15,12 +16,11 @@ use Rattle.rfc9639.specs.declared.StreamBlock.{StreamBlock}
 use Rattle.rfc9639.specs.Header.{header, sampleCount}
 use Rattle.rfc9639.specs.Stream.{possible, blockFits}
 use Rattle.rfc9639.specs.Frame.{body}
-use Rattle.demands.proofs.Headers.{Sound}
+use Rattle.demands.proofs.Headers.{Sound, header-sound}
 use Rattle.demands.proofs.StreamSettings.{size-possible}
 use Rattle.input.proofs.Callers.{bit-is}
 use Rattle.subframe.specs.Answers.{Left}
-use Rattle.header.proofs.HeaderParts.{header-sound}
-use Rattle.frame.proofs.StreamBlocks.{not-true, not-false, first-fits}
+use Rattle.frame.proofs.StreamBlocks.{first-fits}
 use Rattle.frame.proofs.AnswerCases.{no-bits, larger-block, no-room, no-first-bit, body-read, body-refused}
 use Rattle.frame.proofs.read_body.Statement.{statement}
 use Rattle.frame.proofs.read_body.Tie as tie
@@ -77,7 +77,7 @@ block-fits-requires c κs = search needs
 returns-2 : tie.Need-returns-2
 returns-2 c =
     let d = c .before in let k = d .before .before .before in
-    larger-block (set k) (bytes k) (lent k) (ok k) (header-is k) (d .before .if1 .left) (sym (d .block-fits .ensures) ∙ not-true (c .if2 .taken))
+    larger-block (set k) (bytes k) (lent k) (ok k) (header-is k) (d .before .if1 .left) (sym (d .block-fits .ensures) ∙ not-true (d .block-fits .result) (c .if2 .taken))
 
 -- the block fits the stream
 module _ (c : tie.Else2) where
@@ -88,7 +88,7 @@ module _ (c : tie.Else2) where
   deep = c .before .before .if1 .left
 
   within : blockFits (set checked .block) (start checked .args .h .time) (start checked .args .h .size) ≡ true
-  within = sym (c .before .block-fits .ensures) ∙ not-false (c .if2 .left)
+  within = sym (c .before .block-fits .ensures) ∙ not-false (c .before .block-fits .result) (c .if2 .left)
 
 returns-3 : tie.Need-returns-3
 returns-3 c =

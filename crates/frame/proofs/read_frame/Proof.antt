@@ -2,13 +2,13 @@
 use mathlib.Core.Bool.{true}
 use mathlib.Core.Path.{_≡_, ap, sym, _∙_}
 use borrow.Author.Needs.{needs}
+use borrow.Author.Tests.{not-true, not-false}
 use Rattle.rfc9639.specs.Stream.{possible}
 use Rattle.header.specs.Answers.{headerAt}
 use Rattle.error.specs.Numbers.{refusedBy}
 use Rattle.header.proofs.ReaderSteps.{answer-is}
 use Rattle.frame.specs.Private.{headerRefusal}
 use Rattle.frame.proofs.AnswerCases.{settings-refused, nothing-left, header-stops}
-use Rattle.frame.proofs.StreamBlocks.{not-true, not-false}
 use Rattle.frame.proofs.read_frame.Statement.{statement}
 use Rattle.frame.proofs.read_frame.Tie as tie
 
@@ -16,11 +16,11 @@ is-possible-requires : tie.Need-is-possible-requires
 is-possible-requires c κs = search needs
 
 returns : tie.Need-returns
-returns c = settings-refused _ _ _ (sym (c .before .is-possible .ensures) ∙ not-true (c .if1 .taken))
+returns c = settings-refused _ _ _ (sym (c .before .is-possible .ensures) ∙ not-true (c .before .is-possible .result) (c .if1 .taken))
 
 -- a stream can have the settings
 ok : (c : tie.Else1) → possible (c .before .before .before .args .set) ≡ true
-ok c = sym (c .before .is-possible .ensures) ∙ not-false (c .if1 .left)
+ok c = sym (c .before .is-possible .ensures) ∙ not-false (c .before .is-possible .result) (c .if1 .left)
 
 returns-2 : tie.Need-returns-2
 returns-2 c = nothing-left _ _ _ (ok (c .before)) (c .if2 .taken)
