@@ -8,7 +8,7 @@ use Rattle.rfc9639.specs.declared.FrameHeader.{FrameHeader}
 use Rattle.rfc9639.specs.declared.Settings.{Settings}
 use Rattle.rfc9639.specs.declared.StreamBlock.{StreamBlock}
 use Rattle.rfc9639.specs.Header.{header}
-use Rattle.rfc9639.specs.Read.{Result, result}
+use Rattle.rfc9639.specs.Read.{Result}
 
 -- What an answer is, by its number: 0 is a frame; 1 and 2 may change with more bytes; more bytes never change the
 -- others.
@@ -50,6 +50,3 @@ blockIn shortAt = StreamBlock.Unknown
 -- What a stream says about itself: the size of its blocks is that of the first, whatever the blocking.
 unfoldable pub streamSettings : List ℕ → Settings
 streamSettings s = record { block = blockIn (runAt header s (placeOf 0)) }
-
-unfoldable pub streamAnswers : ℕ → List ℕ → List Result
-streamAnswers room s = answers (result (record { given = streamSettings s; room = room })) s
