@@ -5,6 +5,7 @@ use mathlib.Core.List.{List, [], _++_}
 use lib.IntN.{pos}
 use lib.ListN.{length, replicate}
 use Rattle.rfc9639.specs.declared.FirstSample.{FirstSample}
+use Rattle.rfc9639.specs.declared.SampleRate.{SampleRate}
 use Rattle.rfc9639.specs.declared.Settings.{Settings}
 use Rattle.rfc9639.specs.Read.{refusal, read}
 use Rattle.rfc9639.proofs.Evaluation.{hex, blocksOf, unknown, computed}
@@ -21,7 +22,7 @@ abbrev accepts : Settings → List ℕ → FirstSample → Type 0
 accepts set s first =
     read set s (replicate 5 (pos 7))
     ≡ record {
-      report = record { number = 0; consumed = length s; first = first; channels = 1; bits = 8; size = 4 };
+      report = record { number = 0; consumed = length s; first = first; rate = SampleRate.Unknown; channels = 1; bits = 8; size = 4 };
       buffer = replicate 4 (pos 5) ++ replicate 1 (pos 7);
     }
 

@@ -1,7 +1,7 @@
 -- The frame (RFC 9639 section 9): header, subframes, footer.
 use Prim.Native.Nat.{ℕ, _+_, _-_, _%_}
 use mathlib.Core.List.{List, [], _∷_}
-use lib.Dec.{leb, ltb, eqb}
+use lib.Dec.{leb, eqb}
 use lib.IntN.{ℤ}
 use lib.ListN.{length, replicate}
 use Rattle.reading.specs.Readers.{Ask, done, _>>=_, _>>_, bits, passed, require, each}
@@ -13,23 +13,29 @@ use Rattle.rfc9639.specs.CheckSums.{crc16}
 use Rattle.rfc9639.specs.Header.{header, sampleCount}
 use Rattle.rfc9639.specs.Subframe.{subframe}
 use Rattle.rfc9639.specs.Stereo.{leftAndRight}
-use Rattle.rfc9639.specs.Stream.{possible, blockFits}
+use Rattle.rfc9639.specs.Stream.{possible, completed, bitsRead, bitsFit, blockFits}
 
 -- what the caller gives besides the bytes: its settings, and room for this many samples
 pub record ReaderSettings : Type 0 where
   pub given : Settings
   pub room : ℕ
 
--- A header whose frame can be read: it states the bit depth, its block belongs to the stream, and there is room for the
--- frame's samples. Settings that no stream has are refused before anything is read.
-unfoldable pub opening : ReaderSettings → Ask FrameHeader
-opening set = do
-  require (possible (set .given)) 11
-  h ← header
-  require (ltb 0 (h .bits)) 8
+-- A header whose frame can be read: its bits are known and read here, they are the stream's, its block belongs to the
+-- stream, and there is room for the frame's samples.
+unfoldable pub checked : ReaderSettings → FrameHeader → Ask FrameHeader
+checked set h = do
+  require (bitsRead (h .bits)) 8
+  require (bitsFit (set .given .stream) (h .bits)) 9
   require (blockFits (set .given .block) (h .time) (h .size)) 9
   require (leb (sampleCount h) (set .room)) 7
   done h
+
+-- Settings that no stream has are refused before anything is read. What the header leaves to the stream is filled in.
+unfoldable pub opening : ReaderSettings → Ask FrameHeader
+opening set = do
+  require (possible (set .given)) 11
+  own ← header
+  checked set (completed (set .given .stream) own)
 
 -- the width of each channel (section 4.2): a side channel is one bit wider
 unfoldable pub widths : ChannelAssignment → ℕ → List ℕ

@@ -7,6 +7,7 @@ use Rattle.reading.specs.Places.{At, gotAt, refusedAt, shortAt, runAt, placeOf}
 use Rattle.rfc9639.specs.declared.FrameHeader.{FrameHeader}
 use Rattle.rfc9639.specs.declared.Settings.{Settings}
 use Rattle.rfc9639.specs.declared.StreamBlock.{StreamBlock}
+use Rattle.rfc9639.specs.declared.StreamRecord.{StreamRecord}
 use Rattle.rfc9639.specs.Header.{header}
 use Rattle.rfc9639.specs.Read.{Result}
 
@@ -47,6 +48,7 @@ blockIn (gotAt h at) = StreamBlock.Known (h .size)
 blockIn (refusedAt n) = StreamBlock.Unknown
 blockIn shortAt = StreamBlock.Unknown
 
--- What a stream says about itself: the size of its blocks is that of the first, whatever the blocking.
+-- What a stream without a stream header says about itself: the size of its blocks is that of the first, whatever the
+-- blocking.
 unfoldable pub streamSettings : List ℕ → Settings
-streamSettings s = record { block = blockIn (runAt header s (placeOf 0)) }
+streamSettings s = record { block = blockIn (runAt header s (placeOf 0)); stream = StreamRecord.Unknown }

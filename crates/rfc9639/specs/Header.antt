@@ -10,7 +10,7 @@ use Rattle.rfc9639.specs.declared.ChannelAssignment.{ChannelAssignment}
 use Rattle.rfc9639.specs.declared.Codes.{Codes}
 use Rattle.rfc9639.specs.declared.FrameHeader.{FrameHeader}
 use Rattle.rfc9639.specs.CheckSums.{crc8}
-use Rattle.rfc9639.specs.HeaderCodes.{syncCode, largestFrameNumber, blockSize, rateBits, assignment, channelCount, bitDepth}
+use Rattle.rfc9639.specs.HeaderCodes.{syncCode, largestFrameNumber, blockSize, rateBits, sampleRate, assignment, channelCount, bitDepth}
 use Rattle.rfc9639.specs.Number.{codedNumber}
 
 -- a frame's number where the blocking bit is 0, a sample's where it is 1
@@ -77,9 +77,9 @@ unfoldable pub headerAfterCodes : Codes → Ask FrameHeader
 headerAfterCodes c = do
   time ← blockTime (c .blocking)
   size ← blockSize (c .size)
-  rate ← bits (rateBits (c .rate))
+  stored ← bits (rateBits (c .rate))
   headerSum
-  done (record { time = time; size = size; channels = c .channels; bits = c .bits })
+  done (record { time = time; size = size; rate = sampleRate (c .rate) stored; channels = c .channels; bits = c .bits })
 
 unfoldable pub header : Ask FrameHeader
 header = do

@@ -7,6 +7,8 @@ use Rattle.reading.specs.Readers.{Ask, done, stop, _>>=_, _>>_, bits, require, 
 use Rattle.reading.specs.NumbersAsBits.{bitsOf}
 use Rattle.rfc9639.specs.declared.ChannelAssignment.{ChannelAssignment}
 use Rattle.rfc9639.specs.declared.ChannelAssignment.the-variants.{Independent, LeftSide, SideRight, MidSide}
+use Rattle.rfc9639.specs.declared.SampleRate.{SampleRate}
+use Rattle.rfc9639.specs.declared.SampleRate.the-variants.{Unknown, Known}
 
 -- ---- constants
 
@@ -65,14 +67,33 @@ sizeBits n =
 
 -- ---- the sample rate
 
--- Section 9.1.7: how many bits of the sample rate follow the coded number. No sample depends on the rate. The writer
--- writes code 0.
+-- Section 9.1.7: how many bits of the sample rate follow the coded number. The writer writes code 0.
 unfoldable pub rateBits : ℕ → ℕ
 rateBits code =
     if eqb code 12 then 8
     else if eqb code 13 then 16
     else if eqb code 14 then 16
     else 0
+
+-- Section 9.1.2 and, for the codes 12 to 14, which count `stored` in thousands, ones and tens, 9.1.7. Code 0 leaves the
+-- rate to the stream; code 15 is refused before. No sample and no refusal depends on the rate.
+unfoldable pub sampleRate : ℕ → ℕ → SampleRate
+sampleRate code stored =
+    if eqb code 1 then Known 88200
+    else if eqb code 2 then Known 176400
+    else if eqb code 3 then Known 192000
+    else if eqb code 4 then Known 8000
+    else if eqb code 5 then Known 16000
+    else if eqb code 6 then Known 22050
+    else if eqb code 7 then Known 24000
+    else if eqb code 8 then Known 32000
+    else if eqb code 9 then Known 44100
+    else if eqb code 10 then Known 48000
+    else if eqb code 11 then Known 96000
+    else if eqb code 12 then Known (stored * 1000)
+    else if eqb code 13 then Known stored
+    else if eqb code 14 then Known (stored * 10)
+    else Unknown
 
 -- ---- the channels
 

@@ -10,6 +10,7 @@ pub mod Prediction
 pub mod Subframe
 pub mod Stereo
 pub mod Stream
+pub mod StreamHeader
 pub mod Frame
 pub mod Read
 pub mod FrameByFrame

@@ -9,30 +9,33 @@ use Rattle.reading.specs.Readers.{Ask, done, _>>=_, _>>_, bits}
 use Rattle.reading.specs.Places.{At, gotAt, refusedAt, shortAt, runAt, placeOf}
 use Rattle.rfc9639.specs.declared.FirstSample.{FirstSample}
 use Rattle.rfc9639.specs.declared.FrameHeader.{FrameHeader}
+use Rattle.rfc9639.specs.declared.SampleRate.{SampleRate}
 use Rattle.rfc9639.specs.declared.Settings.{Settings}
 use Rattle.rfc9639.specs.HeaderCodes.{channelCount}
 use Rattle.rfc9639.specs.Header.{sampleCount}
 use Rattle.rfc9639.specs.Stream.{firstSample}
 use Rattle.rfc9639.specs.Frame.{ReaderSettings, Frame, opening, frame}
 
--- `number` is 0 for a frame. Else it is the refusal's, all other numbers are 0, and no first sample is known. `consumed`
--- counts the frame's bytes.
+-- `number` is 0 for a frame. Else it is the refusal's, all other numbers are 0, and no first sample and no rate is known.
+-- `consumed` counts the frame's bytes.
 pub record Report : Type 0 where
   pub number : ℕ
   pub consumed : ℕ
   pub first : FirstSample
+  pub rate : SampleRate
   pub channels : ℕ
   pub bits : ℕ
   pub size : ℕ
 
 unfoldable pub refusal : ℕ → Report
-refusal n = record { number = n; consumed = 0; first = FirstSample.Unknown; channels = 0; bits = 0; size = 0 }
+refusal n = record { number = n; consumed = 0; first = FirstSample.Unknown; rate = SampleRate.Unknown; channels = 0; bits = 0; size = 0 }
 
 unfoldable pub accepted : Settings → FrameHeader → Place → Report
 accepted given h end = record {
   number = 0;
   consumed = end .byte;
   first = firstSample (given .block) (h .time);
+  rate = h .rate;
   channels = channelCount (h .channels);
   bits = h .bits;
   size = h .size;
