@@ -21,23 +21,23 @@ use Rattle.rfc9639.specs.declared.StreamRecord.{StreamRecord}
 use Rattle.rfc9639.specs.Header.{header, sampleCount}
 use Rattle.rfc9639.specs.Stream.{inRange, bitsInRange, possible, bitsOr, completed, bitsRead, bitsFit, blockFits}
 use Rattle.rfc9639.specs.Frame.{ReaderSettings, body}
-use Rattle.rfc9639.specs.Read.{accepted, Result, zeroed, result}
+use Rattle.rfc9639.specs.Read.{Report, accepted, Result, zeroed, result}
 use Rattle.demands.proofs.ResultCases as cases
 
--- a result but for its rate
-pub unrated : Result → Result
-unrated r = record {
-  report = record {
-    number = r .report .number;
-    consumed = r .report .consumed;
-    first = r .report .first;
-    rate = SampleRate.Unknown;
-    channels = r .report .channels;
-    bits = r .report .bits;
-    size = r .report .size;
-  };
-  front = r .front;
+-- a report and a result, but for the rate
+abbrev pub unratedReport : Report → Report
+unratedReport r = record {
+  number = r .number;
+  consumed = r .consumed;
+  first = r .first;
+  rate = SampleRate.Unknown;
+  channels = r .channels;
+  bits = r .bits;
+  size = r .size;
 }
+
+abbrev pub unrated : Result → Result
+unrated r = record { report = unratedReport (r .report); front = r .front }
 
 -- a header but for its rate, which is this one
 abbrev rated : SampleRate → FrameHeader → FrameHeader
@@ -63,7 +63,7 @@ module _ (block : StreamBlock) (room : ℕ) (s : List ℕ) where
           module _ (within : blockFits block (h .time) (h .size) ≡ true) where
             module _ (fits : sampleCount h ≤ room) where
               body-alike : {v : ℕ} {q : Place} → runAt (bits 1) s p ≡ gotAt v q → (z : At (List ℤ)) → runAt (body h) s p ≡ z → Same
-              unfolding sampleCount body unrated accepted zeroed
+              unfolding sampleCount body accepted zeroed
               body-alike f (gotAt xs end) g =
                   both (cases.body-read (under x) s ok e whole some equal within fits f g) (cases.body-read (under y) s ok′ e twin some equal′ within fits f g) refl
               body-alike f (refusedAt n) g =

@@ -111,10 +111,10 @@ module _ (given : Settings) (set : FrameSetting) (xs : List ℤ) where
       ∙ ap (λ n. record { report = writtenReport set (length (frameBytes set xs)) n (rateOf (given .stream)); buffer = xs ++ drop (length xs) buffer }) (first-is (given .block) set)
 
   -- What is refused, whatever the samples are, and however much room there is: a frame whose bits are not the stream's ..
-  pub other-bits-refused : possible given ≡ true → bitsFit (given .stream) (set .bits) ≡ false → allowed set (length xs) ≡ true → (rest : List ℕ) (buffer : List ℤ)
+  pub other-refused : possible given ≡ true → bitsFit (given .stream) (set .bits) ≡ false → allowed set (length xs) ≡ true → (rest : List ℕ) (buffer : List ℤ)
       → read given (frameBytes set xs ++ rest) buffer ≡ record { report = refusal 9; buffer = buffer }
   unfolding untouched
-  other-bits-refused can other ok rest buffer =
+  other-refused can other ok rest buffer =
       let reader : ReaderSettings = record { given = given; room = length buffer } in
       let s = frameBytes set xs ++ rest in
       let facts = allowed-facts set (length xs) ok in
@@ -138,4 +138,4 @@ module _ (given : Settings) (set : FrameSetting) (xs : List ℤ) where
           read-by given s buffer
           (larger-block reader s can (run-header set xs rest (spells-header set facts)) (sym (completed-is (given .stream) set some)) (bits-read some (facts .depth .most)) equal
           (smaller-unfit given set fixed known less))
-      go false other = other-bits-refused can other ok rest buffer
+      go false other = other-refused can other ok rest buffer
