@@ -181,16 +181,18 @@ def escaped():
     yield "escaped-none-cut", none + model.crc(none, 16, 0x8005).to_bytes(2, "big")
 
 
-def differences():
-    """The inputs of docs/DIFFERENCES.md, on which claxon, the RFC and this reader differ. The words after an input may
-    give the stream's block size, for `read_probe`; without them the block is None, and the input is for `runner`."""
-    form = re.compile("`([0-9A-F]+)`(?:, the stream's block ([0-9]+) \\(`read_probe`\\))?")
+def differences(program):
+    """The inputs of docs/DIFFERENCES.md, on which claxon, the RFC and this reader differ: those for this program, with the
+    stream's block size and its bits, as far as the words after an input give them. Without such words it is for
+    `runner`."""
+    form = re.compile("`([0-9A-F]+)`(?:, the stream's block ([0-9]+))?(?:, the stream's bits ([0-9]+))?(?: \\(`([a-z_]+)`\\))?")
     for line in open("../docs/DIFFERENCES.md"):
         cells = [cell.strip() for cell in line.split("|")]
-        if len(cells) > 3 and cells[2].startswith("`FF"):
-            text, block = form.fullmatch(cells[2]).groups()
+        if len(cells) > 3 and re.match("`[0-9A-F]+`", cells[2]):
+            text, block, bits, named = form.fullmatch(cells[2]).groups()
             name = "difference-" + cells[1].replace(" ", "-").replace(",", "").replace("'", "")
-            yield name, bytes.fromhex(text), None if block is None else int(block)
+            if (named or "runner") == program:
+                yield name, bytes.fromhex(text), block and int(block), bits and (1, int(bits), 44100)
 
 
 def sound(frames):
@@ -305,7 +307,7 @@ def runner_cases():
     yield from accepted(rng)
     yield from claxon_sides()
     yield from escaped()
-    yield from ((name, data) for name, data, block in differences() if block is None)
+    yield from ((name, data) for name, data, *_ in differences("runner"))
     yield from cuts("whole", WHOLE)
     yield from cuts("flac", FLAC)
     yield from written()
@@ -356,9 +358,8 @@ def probe_blocks():
         yield f"block-{size or 'unknown'}-number-{number}", probe(2, 0, size) + plain(1, number, variable)
     for size in (65534, 65535):
         yield f"block-{size}-largest", probe(3, 7, size) + plain(65535, 1)
-    for name, data, size in differences():
-        if size is not None:
-            yield name, probe(33, 7, size) + data
+    for name, data, size, stream in differences("read_probe"):
+        yield name, probe(33, 7, size, stream=stream or (0, 0, 0)) + data
 
 
 def probe_block_order():
@@ -593,6 +594,7 @@ def stream_probe_cases():
     yield from stream_fields()
     yield from stream_blocks()
     yield from stream_cuts()
+    yield from ((name, data) for name, data, *_ in differences("stream_probe"))
 
 
 def settings(code, bits, size, blocking=0, number=0):
