@@ -168,7 +168,17 @@ pub extern "C" fn thriftacorn_read_frame_v1(
     let mut known: u32 = 0;
     let mut rated: u32 = 0;
     let mut rate: u32 = 0;
-    store_report(answer, consumed, &mut known, first, &mut rated, &mut rate, channels, bits, size)
+    store_report(
+        answer,
+        consumed,
+        &mut known,
+        first,
+        &mut rated,
+        &mut rate,
+        channels,
+        bits,
+        size,
+    )
 }
 
 // Reads the frame at a place of the bytes, and moves the place past it. A refusal leaves the place as it was. The size
@@ -194,7 +204,17 @@ pub extern "C" fn thriftacorn_read_next_v1(
     let mut known: u32 = 0;
     let mut rated: u32 = 0;
     let mut rate: u32 = 0;
-    store_report(next, consumed, &mut known, first, &mut rated, &mut rate, channels, bits, size)
+    store_report(
+        next,
+        consumed,
+        &mut known,
+        first,
+        &mut rated,
+        &mut rate,
+        channels,
+        bits,
+        size,
+    )
 }
 
 // Reads the frame at the start of the bytes, with the size of the stream's blocks (1, and the size) or without (0).
@@ -218,7 +238,17 @@ pub extern "C" fn thriftacorn_read_frame_v2(
     let answer = frame::read_frame(bytes, set, samples);
     let mut rated: u32 = 0;
     let mut rate: u32 = 0;
-    store_report(answer, consumed, known, first, &mut rated, &mut rate, channels, bits, size)
+    store_report(
+        answer,
+        consumed,
+        known,
+        first,
+        &mut rated,
+        &mut rate,
+        channels,
+        bits,
+        size,
+    )
 }
 
 // Reads the frame at a place of the bytes with such settings, and moves the place past it. A refusal leaves the place
@@ -247,7 +277,17 @@ pub extern "C" fn thriftacorn_read_next_v2(
     let next = moved.answer;
     let mut rated: u32 = 0;
     let mut rate: u32 = 0;
-    store_report(next, consumed, known, first, &mut rated, &mut rate, channels, bits, size)
+    store_report(
+        next,
+        consumed,
+        known,
+        first,
+        &mut rated,
+        &mut rate,
+        channels,
+        bits,
+        size,
+    )
 }
 
 // Reads the frame at the start of the bytes, with or without (1 or 0) the size of the stream's blocks, and with or
@@ -276,7 +316,17 @@ pub extern "C" fn thriftacorn_read_frame_v3(
 {
     let set = settings_with(given, block, streamed, depth, hertz);
     let found = frame::read_frame(bytes, set, samples);
-    store_report(found, consumed, known, first, rated, rate, channels, bits, size)
+    store_report(
+        found,
+        consumed,
+        known,
+        first,
+        rated,
+        rate,
+        channels,
+        bits,
+        size,
+    )
 }
 
 // Reads the frame at a place of the bytes with such settings, and moves the place past it. A refusal leaves the place
@@ -304,11 +354,21 @@ pub extern "C" fn thriftacorn_read_next_v3(
         (now (place .exit)) (now (consumed .exit)) (now (known .exit)) (now (first .exit)) (now (rated .exit)) (now (rate .exit))
         (now (channels .exit)) (now (bits .exit)) (now (size .exit)) (now (samples .exit)) ⌝ }
 {
-    let set = settings_with(given, block, streamed, depth, hertz);
-    let gone = walk::read_next(bytes, *place, set, samples);
+    let told = settings_with(given, block, streamed, depth, hertz);
+    let gone = walk::read_next(bytes, *place, told, samples);
     *place = gone.place;
     let read = gone.answer;
-    store_report(read, consumed, known, first, rated, rate, channels, bits, size)
+    store_report(
+        read,
+        consumed,
+        known,
+        first,
+        rated,
+        rate,
+        channels,
+        bits,
+        size,
+    )
 }
 
 // The size of a stream's blocks, by the header at the start of the bytes: 1 and the size, or 0 and 0 if there is no
