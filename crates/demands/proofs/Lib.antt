@@ -1,5 +1,6 @@
 -- What the definition of a frame guarantees by itself.
 pub mod Headers
+pub mod StreamRecords
 pub mod FrameRuns
 pub mod FrameSamples
 pub mod Results
@@ -9,3 +10,4 @@ pub mod BufferTable
 pub mod ResultCases
 pub mod StreamSettings
 pub mod Document01
+pub mod SameBits
