@@ -17,3 +17,5 @@ pub mod FewestBits
 pub mod Costs
 pub mod LengthBound
 pub mod FrameBits
+pub mod StreamHeaderBits
+pub mod StreamHeaderValues
