@@ -11,3 +11,4 @@ pub mod ResultCases
 pub mod StreamSettings
 pub mod Document01
 pub mod SameBits
+pub mod StreamHeaders
