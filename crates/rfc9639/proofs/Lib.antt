@@ -18,3 +18,4 @@ pub mod LengthBound
 pub mod FrameBits
 pub mod StreamHeaderBits
 pub mod StreamHeaderValues
+pub mod StreamHeaders
