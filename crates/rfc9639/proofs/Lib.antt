@@ -19,3 +19,4 @@ pub mod LengthBound
 pub mod FrameBits
 pub mod StreamHeaderBits
 pub mod StreamHeaderValues
+pub mod StreamHeaders
