@@ -8,3 +8,4 @@ pub mod ByteRuns
 pub mod BytePrefixes
 pub mod Postconditions
 pub mod Outcome
+pub mod Shifted
