@@ -6,7 +6,7 @@ use mathlib.Core.Path.{_≡_, refl, ap, sym, _∙_}
 use mathlib.Core.Bool.{Bool, true, false}
 use mathlib.Core.List.{List}
 use borrow.Author.Tests.{leb-true, le-leb}
-use lib.Dec.{leb, ltb}
+use lib.Dec.{leb}
 use lib.IntN.{ℤ}
 use lib.ListN.{length, take}
 use Rattle.reading.specs.declared.Place.{Place}
@@ -22,8 +22,8 @@ use Rattle.rfc9639.specs.declared.Settings.{Settings}
 use Rattle.rfc9639.specs.HeaderCodes.{channelCount}
 use Rattle.rfc9639.specs.Header.{header, sampleCount}
 use Rattle.rfc9639.specs.Subframe.{subframeHeader, subframe}
-use Rattle.rfc9639.specs.Stream.{possible, blockFits}
-use Rattle.rfc9639.specs.Frame.{ReaderSettings, opening, widths, padding, footer, body, Frame, frame}
+use Rattle.rfc9639.specs.Stream.{possible, completed, bitsRead, bitsFit, blockFits}
+use Rattle.rfc9639.specs.Frame.{ReaderSettings, checked, opening, widths, padding, footer, body, Frame, frame}
 use Rattle.rfc9639.specs.Stereo.{leftAndRight}
 use Rattle.rfc9639.specs.Read.{begun}
 
@@ -124,18 +124,23 @@ module _ (given : Settings) (room room′ : ℕ) (more : room ≤ room′) (s : 
   large = record { given = given; room = room′ }
 
   -- where the smaller room is enough, the larger gives the same header
+  checked-more : (h : FrameHeader) (p : Place) → (runAt (checked small h) s p ≡ refusedAt 7 → ⊥) → runAt (checked large h) s p ≡ runAt (checked small h) s p
+  unfolding checked
+  checked-more h p =
+      alike-unless 7 (require (bitsRead (h .bits)) 8) _ _ s p
+      (λ _ p _. alike-unless 7 (require (bitsFit (given .stream) (h .bits)) 9) _ _ s p
+      (λ _ p _. alike-unless 7 (require (blockFits (given .block) (h .time) (h .size)) 9) _ _ s p
+      (λ _ q e lacks. fit q (stays-in _ s _ e) (leb (sampleCount h) room) refl lacks)))
+    where
+      fit : (p : Place) → In s p → (b : Bool) → leb (sampleCount h) room ≡ b
+          → (runAt (require (leb (sampleCount h) room) 7 >>= (λ _. done h)) s p ≡ refusedAt 7 → ⊥)
+          → runAt (require (leb (sampleCount h) room′) 7 >>= (λ _. done h)) s p ≡ runAt (require (leb (sampleCount h) room) 7 >>= (λ _. done h)) s p
+      fit p i true e lacks =
+          require-holds 7 _ i (le-leb _ _ (le-trans (leb-true (sampleCount h) room e) more)) ∙ sym (require-holds 7 _ i e)
+      fit p i false e lacks = absurd (lacks (require-fails 7 _ i e))
+
   pub opening-more : (runAt (opening small) s at ≡ refusedAt 7 → ⊥) → runAt (opening large) s at ≡ runAt (opening small) s at
   unfolding opening
   opening-more =
       alike-unless 7 (require (possible given) 11) _ _ s at
-      (λ _ p _. alike-unless 7 header _ _ s p
-      (λ h q _. alike-unless 7 (require (ltb 0 (h .bits)) 8) _ _ s q
-      (λ _ q _. alike-unless 7 (require (blockFits (given .block) (h .time) (h .size)) 9) _ _ s q
-      (λ _ q e lacks. fit h q (stays-in _ s _ e) (leb (sampleCount h) room) refl lacks))))
-    where
-      fit : (h : FrameHeader) (p : Place) → In s p → (b : Bool) → leb (sampleCount h) room ≡ b
-          → (runAt (require (leb (sampleCount h) room) 7 >>= (λ _. done h)) s p ≡ refusedAt 7 → ⊥)
-          → runAt (require (leb (sampleCount h) room′) 7 >>= (λ _. done h)) s p ≡ runAt (require (leb (sampleCount h) room) 7 >>= (λ _. done h)) s p
-      fit h p i true e lacks =
-          require-holds 7 _ i (le-leb _ _ (le-trans (leb-true (sampleCount h) room e) more)) ∙ sym (require-holds 7 _ i e)
-      fit h p i false e lacks = absurd (lacks (require-fails 7 _ i e))
+      (λ _ p _. alike-unless 7 header _ _ s p (λ own q _. checked-more (completed (given .stream) own) q))

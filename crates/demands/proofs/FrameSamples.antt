@@ -5,7 +5,7 @@ use native.Mathlib.Omega.{arith}
 use mathlib.Core.Bool.{true}
 use mathlib.Core.Path.{_≡_, refl, ap, ap₂, sym, _∙_}
 use mathlib.Core.List.{List, [], _∷_, _++_, map, reverse}
-use borrow.Author.Tests.{ltb-true, leb-true, eqb-true}
+use borrow.Author.Tests.{leb-true, eqb-true}
 use lib.Dec.{leb, ltb, eqb}
 use lib.IntN.{ℤ, _+ℤ_, _-ℤ_}
 use lib.ListN.{length, take, drop, replicate, length-append, length-map, length-replicate, length-take, length-drop}
@@ -24,11 +24,12 @@ use Rattle.rfc9639.specs.Residual.{rice, escaped, codedResiduals, partition, pa
 use Rattle.rfc9639.specs.Prediction.{restored, predict}
 use Rattle.rfc9639.specs.Subframe.{subframeType, wastedBits, checkedWastedBits, kindAndWasted, subframeHeader, orderOf, fixed, quantization, lpcAfterShift, lpc, samplesByType, subframeAfterHeader, subframe}
 use Rattle.rfc9639.specs.Stereo.{rightOf, leftOf, doubled, leftOfMid, rightOfMid, pairwise, leftAndRight}
-use Rattle.rfc9639.specs.Stream.{possible, blockFits}
-use Rattle.rfc9639.specs.Frame.{ReaderSettings, opening, widths, footer, body, Frame, frame}
+use Rattle.rfc9639.specs.Stream.{possible, completed, bitsRead, bitsFit, blockFits}
+use Rattle.rfc9639.specs.Frame.{ReaderSettings, checked, opening, widths, footer, body, Frame, frame}
 use Rattle.rfc9639.specs.Read.{begun}
 use Rattle.rfc9639.proofs.Widths.{Fits, wrapped-fits, shiftDown-fits, shiftUp-fits}
 use Rattle.demands.proofs.Headers.{Listed, Early, Late, forbidden, not-done, bad-shape, frame-sum, early-listed, late-listed, Sound, header-holds}
+use Rattle.demands.proofs.StreamRecords.{completed-sound, read-bits}
 
 -- a signed number of 32 bits
 abbrev pub Sample : ℤ → Type 0
@@ -250,22 +251,36 @@ body-holds h =
     (λ _ _. value
     (leftAndRight-sized (h .channels) (h .size) xs (record { count = s .count ∙ total-widths (h .channels) (h .bits) (h .size); every = s .every }))))
 
--- a header whose frame fits the room
+-- a header whose frame fits the stream and the room
 pub record HeaderInRoom (set : ReaderSettings) (h : FrameHeader) : Type 0 where
   pub sound : Sound h
   pub depth : 1 ≤ h .bits
+  pub stream : bitsFit (set .given .stream) (h .bits) ≡ true
   pub block : blockFits (set .given .block) (h .time) (h .size) ≡ true
   pub room : sampleCount h ≤ set .room
+
+checked-holds : (set : ReaderSettings) (h : FrameHeader) → (h .bits ≤ 24 → Sound h) → Holds Early (HeaderInRoom set) (checked set h)
+unfolding checked
+checked-holds set h sound =
+    holds-bind _ (holds-require (bitsRead (h .bits)) 8 (omega arith))
+    (λ _ d. holds-bind _ (holds-require (bitsFit (set .given .stream) (h .bits)) 9 (omega arith))
+    (λ _ b. holds-bind _ (holds-require (blockFits (set .given .block) (h .time) (h .size)) 9 (omega arith))
+    (λ _ f. holds-bind _ (holds-require (leb (sampleCount h) (set .room)) 7 (omega arith))
+    (λ _ r. value
+    (record {
+      sound = sound (read-bits (h .bits) d .1);
+      depth = read-bits (h .bits) d .0;
+      stream = b;
+      block = f;
+      room = leb-true (sampleCount h) (set .room) r;
+    })))))
 
 pub opening-holds : (set : ReaderSettings) → Holds Early (HeaderInRoom set) (opening set)
 unfolding opening
 opening-holds set =
     holds-bind _ (holds-require (possible (set .given)) 11 (omega arith))
     (λ _ _. holds-bind _ header-holds
-    (λ h s. holds-bind _ (holds-require (ltb 0 (h .bits)) 8 (omega arith))
-    (λ _ d. holds-bind _ (holds-require (blockFits (set .given .block) (h .time) (h .size)) 9 (omega arith))
-    (λ _ f. holds-bind _ (holds-require (leb (sampleCount h) (set .room)) 7 (omega arith))
-    (λ _ r. value (record { sound = s; depth = ltb-true 0 (h .bits) d; block = f; room = leb-true (sampleCount h) (set .room) r }))))))
+    (λ own s. checked-holds set (completed (set .given .stream) own) (completed-sound (set .given .stream) s)))
 
 pub record FrameInRoom (set : ReaderSettings) (f : Frame) : Type 0 where
   pub header : HeaderInRoom set (f .header)

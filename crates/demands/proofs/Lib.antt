@@ -1,5 +1,6 @@
 -- What the definition of a frame guarantees by itself.
 pub mod Headers
+pub mod StreamRecords
 pub mod FrameRuns
 pub mod FrameSamples
 pub mod Results

@@ -12,35 +12,44 @@ use Rattle.reading.proofs.BytePrefixes.{runAt-append}
 use Rattle.rfc9639.specs.declared.FrameHeader.{FrameHeader}
 use Rattle.rfc9639.specs.declared.Settings.{Settings}
 use Rattle.rfc9639.specs.declared.StreamBlock.{StreamBlock}
+use Rattle.rfc9639.specs.declared.StreamRecord.{StreamRecord}
 use Rattle.rfc9639.specs.Header.{header}
-use Rattle.rfc9639.specs.Stream.{inRange, possible}
+use Rattle.rfc9639.specs.Stream.{inRange, bitsInRange, possible}
 use Rattle.rfc9639.specs.FrameByFrame.{blockIn, streamSettings}
 use Rattle.demands.proofs.Headers.{header-sound}
 
+-- settings of a stream without a record
+abbrev pub blocksOnly : StreamBlock → Settings
+blocksOnly block = record { block = block; stream = StreamRecord.Unknown }
+
 -- the size of a block is one that a stream can have
-pub size-possible : {n : ℕ} → 1 ≤ n → n ≤ 65535 → possible (record { block = StreamBlock.Known n }) ≡ true
-unfolding possible inRange
-size-possible {n} some few = rw (lt-ltb 0 n some, le-leb n 65535 few) refl
+pub size-in-range : {n : ℕ} → 1 ≤ n → n ≤ 65535 → inRange (StreamBlock.Known n) ≡ true
+unfolding inRange
+size-in-range {n} some few = rw (lt-ltb 0 n some, le-leb n 65535 few) refl
+
+pub size-possible : {n : ℕ} → 1 ≤ n → n ≤ 65535 → possible (blocksOnly (StreamBlock.Known n)) ≡ true
+unfolding possible bitsInRange
+size-possible some few = rw (size-in-range some few) refl
 
 module _ (s : List ℕ) where
-  pub header-settings : {h : FrameHeader} {p : Place} → runAt header s (placeOf 0) ≡ gotAt h p → streamSettings s ≡ record { block = StreamBlock.Known (h .size) }
+  pub header-settings : {h : FrameHeader} {p : Place} → runAt header s (placeOf 0) ≡ gotAt h p → streamSettings s ≡ blocksOnly (StreamBlock.Known (h .size))
   unfolding streamSettings blockIn
-  header-settings e = ap (λ x. record { block = blockIn x }) e
+  header-settings e = ap (λ x. blocksOnly (blockIn x)) e
 
-  pub refused-settings : {n : ℕ} → runAt header s (placeOf 0) ≡ refusedAt n → streamSettings s ≡ record { block = StreamBlock.Unknown }
+  pub refused-settings : {n : ℕ} → runAt header s (placeOf 0) ≡ refusedAt n → streamSettings s ≡ blocksOnly StreamBlock.Unknown
   unfolding streamSettings blockIn
-  refused-settings e = ap (λ x. record { block = blockIn x }) e
+  refused-settings e = ap (λ x. blocksOnly (blockIn x)) e
 
-  pub short-settings : runAt header s (placeOf 0) ≡ shortAt → streamSettings s ≡ record { block = StreamBlock.Unknown }
+  pub short-settings : runAt header s (placeOf 0) ≡ shortAt → streamSettings s ≡ blocksOnly StreamBlock.Unknown
   unfolding streamSettings blockIn
-  short-settings e = ap (λ x. record { block = blockIn x }) e
+  short-settings e = ap (λ x. blocksOnly (blockIn x)) e
 
   -- a stream can have them
   pub stream-possible : possible (streamSettings s) ≡ true
-  unfolding possible streamSettings blockIn inRange
+  unfolding possible streamSettings blockIn inRange bitsInRange
   stream-possible = go (runAt header s (placeOf 0)) refl
     where
-      go : (x : At FrameHeader) → runAt header s (placeOf 0) ≡ x → possible (record { block = blockIn x }) ≡ true
+      go : (x : At FrameHeader) → runAt header s (placeOf 0) ≡ x → possible (blocksOnly (blockIn x)) ≡ true
       go (gotAt h p) e = size-possible (header-sound s e .some) (header-sound s e .size)
       go (refusedAt n) e = refl
       go shortAt e = refl
@@ -48,4 +57,4 @@ module _ (s : List ℕ) where
   -- a header that is there, or refused, stays so
   pub settings-stay : (runAt header s (placeOf 0) ≡ shortAt → ⊥) → (t : List ℕ) → streamSettings (s ++ t) ≡ streamSettings s
   unfolding streamSettings
-  settings-stay known t = ap (λ x. record { block = blockIn x }) (runAt-append header s (placeOf 0) t known)
+  settings-stay known t = ap (λ x. blocksOnly (blockIn x)) (runAt-append header s (placeOf 0) t known)
