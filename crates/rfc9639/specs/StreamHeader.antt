@@ -1,11 +1,13 @@
 -- The stream header (RFC 9639 sections 6 and 8): the mark fLaC, then metadata blocks, the first of which is STREAMINFO.
 -- The fields are checked in their order, each as soon as it is read. A refusal's number is document 01's.
 use Prim.Native.Nat.{ℕ, zero, suc, _+_, _*_}
+use mathlib.Core.Bool.{Bool}
 use mathlib.Core.List.{List}
 use lib.Dec.{leb, ltb, eqb}
 use lib.ListN.{length}
-use Rattle.reading.specs.Readers.{Ask, done, stop, _>>=_, _>>_, bits, require, many, if_then_else_}
+use Rattle.reading.specs.Readers.{Ask, done, stop, _>>=_, _>>_, bits, require, if_then_else_}
 use Rattle.reading.specs.Places.{At, runAt, placeOf}
+use Rattle.rfc9639.specs.declared.Md5.{Md5}
 use Rattle.rfc9639.specs.declared.Sizes.{Sizes}
 use Rattle.rfc9639.specs.declared.StreamInfo.{StreamInfo}
 
@@ -24,45 +26,51 @@ sizes w = do
   largest ← bits w
   done (record { smallest = smallest; largest = largest })
 
--- the bits of a sample, at least 4; they are stored less one
-unfoldable pub streamBits : Ask ℕ
-streamBits = do
-  v ← bits 5
-  require (leb 4 (v + 1)) 9
-  done (v + 1)
+-- The sample rate, the number of channels and the bits of a sample, at least 4. The last two are stored less one.
+unfoldable pub rateChannelsAndBits : Ask (ℕ × ℕ × ℕ)
+rateChannelsAndBits = do
+  rate ← bits 20
+  channels ← bits 3
+  depth ← bits 5
+  require (leb 4 (depth + 1)) 9
+  done (rate, channels + 1, depth + 1)
 
--- Section 8.2. The number of channels is stored less one. Nothing else is checked.
+unfoldable pub md5 : Ask Md5
+md5 = do
+  high ← bits 64
+  low ← bits 64
+  done (record { high = high; low = low })
+
+-- Section 8.2. Nothing else is checked.
 unfoldable pub streamInfo : Ask StreamInfo
 streamInfo = do
   blocks ← sizes 16
   frames ← sizes 24
-  rate ← bits 20
-  channels ← bits 3
-  depth ← streamBits
+  (rate, channels, depth) ← rateChannelsAndBits
   samples ← bits 36
-  md5 ← many 16 (bits 8)
+  sum ← md5
   done (record {
     blocks = blocks;
     frames = frames;
     rate = rate;
-    channels = channels + 1;
+    channels = channels;
     bits = depth;
     samples = samples;
-    md5 = md5;
+    md5 = sum;
   })
 
 -- ---- the metadata blocks
 
--- Section 8.1: whether the block is the last one, 1 or 0, and its type. Type 127 is forbidden.
-unfoldable pub lastAndType : Ask (ℕ × ℕ)
+-- Section 8.1: whether the block is the last one, and its type. Type 127 is forbidden.
+unfoldable pub lastAndType : Ask (Bool × ℕ)
 lastAndType = do
   last ← bits 1
   type ← bits 7
   require (ltb type 127) 4
-  done (last, type)
+  done (eqb last 1, type)
 
 -- The first block is STREAMINFO, type 0, of 34 bytes.
-unfoldable pub firstBlock : Ask (ℕ × StreamInfo)
+unfoldable pub firstBlock : Ask (Bool × StreamInfo)
 firstBlock = do
   (last, type) ← lastAndType
   require (eqb type 0) 9
@@ -71,12 +79,17 @@ firstBlock = do
   info ← streamInfo
   done (last, info)
 
--- A later block of any type is skipped by its length in bytes, and must be there whole. The result says whether it is
--- the last.
-unfoldable pub skippedBlock : Ask ℕ
-skippedBlock = do
+-- A later block may have any type. What is read of it is whether it is the last one, and its length in bytes.
+unfoldable pub blockHead : Ask (Bool × ℕ)
+blockHead = do
   (last, type) ← lastAndType
   size ← bits 24
+  done (last, size)
+
+-- Its contents are skipped, and must be there whole. The result says whether it is the last one.
+unfoldable pub skippedBlock : Ask Bool
+skippedBlock = do
+  (last, size) ← blockHead
   contents ← bits (8 * size)
   done last
 
@@ -86,14 +99,19 @@ unfoldable pub skippedBlocks : ℕ → Ask (Unit {0})
 skippedBlocks zero = stop 2
 skippedBlocks (suc n) = do
   last ← skippedBlock
-  if eqb last 1 then done tt else skippedBlocks n
+  if last then done tt else skippedBlocks n
+
+-- ---- the whole
+
+-- the mark and STREAMINFO, and whether that is the last block
+unfoldable pub streamStart : Ask (Bool × StreamInfo)
+streamStart = mark >> firstBlock
 
 -- the stream header, with at most n blocks after the first
 unfoldable pub streamHeader : ℕ → Ask StreamInfo
 streamHeader n = do
-  mark
-  (last, info) ← firstBlock
-  if eqb last 1 then done tt else skippedBlocks n
+  (last, info) ← streamStart
+  if last then done tt else skippedBlocks n
   done info
 
 -- THE STREAM HEADER of some bytes, and the place after it, where the frames start.
