@@ -3,9 +3,10 @@
 use Prim.Native.Nat.{ℕ, zero, suc, _+_, _*_, _≤_, _<_}
 use native.Mathlib.Omega.{arith}
 use mathlib.Core.Path.{_≡_, refl, ap, ap₂, sym, _∙_}
-use mathlib.Core.Bool.{Bool, true, false, cond}
+use mathlib.Core.Bool.{Bool, true, false, _&&_, cond}
 use mathlib.Core.List.{List, [], _∷_, _++_}
-use borrow.Author.Tests.{lt-ltb, leb-false}
+use borrow.Author.Tests.{le-leb, lt-leb, leb-true, leb-false}
+use lib.Dec.{leb, ltb}
 use lib.ListN.{length, drop, length-append}
 use lib.Seq.{drop-append-add}
 use Rattle.reading.specs.declared.Place.{Place}
@@ -13,7 +14,7 @@ use Rattle.reading.specs.Readers.{Question, nextBits, nextZeros, Ask, do
 use Rattle.reading.specs.Bytes.{bitsOfBytes}
 use Rattle.reading.specs.Places.{position, placeOf, inside, At, gotAt, refusedAt, shortAt, toAt, runAt}
 use Rattle.reading.proofs.Bits.{length-bitsOfBytes}
-use Rattle.reading.proofs.ByteRuns.{In, inside-in, runAt-in, runAt-out, outside-end, place-is, place-position}
+use Rattle.reading.proofs.ByteRuns.{place-is}
 use Rattle.reading.proofs.BytePrefixes.{bitsOfBytes-append}
 
 -- ---- such readers
@@ -82,9 +83,12 @@ module _ (u s : List ℕ) where
 
 -- ---- on bytes
 
--- an answer that ends m bytes on
+-- a place, and an answer's place, m bytes on
+abbrev pub placeFurther : ℕ → Place → Place
+placeFurther m at = record { byte = m + at .byte; bit = at .bit }
+
 unfoldable pub atFurther : {A : Type 0} → ℕ → At A → At A
-atFurther m (gotAt a at) = gotAt a (record { byte = m + at .byte; bit = at .bit })
+atFurther m (gotAt a at) = gotAt a (placeFurther m at)
 atFurther m (refusedAt n) = refusedAt n
 atFurther m shortAt = shortAt
 
@@ -94,26 +98,27 @@ toAt-further m u s e (got a j) = ap (gotAt a) (sym (place-is (m + placeOf j .byt
 toAt-further m u s e (refused k j) = refl
 toAt-further m u s e short = refl
 
-past : (s : List ℕ) (i : ℕ) → inside s (placeOf i) ≡ false → 8 * length s < i
-unfolding inside
-past s i t = let b : placeOf i .bit < 8 = omega arith in omega (arith, leb-false (position (placeOf i)) (8 * length s) (rw (lt-ltb (placeOf i .bit) 8 b) at t))
+leb-alike : (a b c d : ℕ) → (a ≤ b → c ≤ d) → (b < a → d < c) → leb c d ≡ leb a b
+leb-alike a b c d f g = go (leb a b) refl
+  where
+    go : (x : Bool) → leb a b ≡ x → leb c d ≡ leb a b
+    go true e = le-leb c d (f (leb-true a b e)) ∙ sym e
+    go false e = lt-leb c d (g (leb-false a b e)) ∙ sym e
 
 -- THE LAW
-pub runAt-further : {A : Type 0} {p : Ask A} → Forward p → (u s : List ℕ) (i : ℕ)
-    → runAt p (u ++ s) (placeOf (8 * length u + i)) ≡ atFurther (length u) (runAt p s (placeOf i))
-unfolding atFurther
-runAt-further {A} {p} f u s i = go (inside s (placeOf i)) refl
+pub runAt-further : {A : Type 0} {p : Ask A} → Forward p → (u s : List ℕ) (at : Place)
+    → runAt p (u ++ s) (placeFurther (length u) at) ≡ atFurther (length u) (runAt p s at)
+unfolding runAt inside atFurther
+runAt-further {A} {p} f u s at = ap (λ b. cond b (toAt (run p (bitsOfBytes (u ++ s)) (position (placeFurther (length u) at)))) shortAt) alike ∙ go (inside s at)
   where
-    long : length (bitsOfBytes u) ≡ 8 * length u
-    long = length-bitsOfBytes u
+    alike : inside (u ++ s) (placeFurther (length u) at) ≡ inside s at
+    alike =
+        ap (λ b. ltb (at .bit) 8 && b)
+        (leb-alike (position at) (8 * length s) (position (placeFurther (length u) at)) (8 * length (u ++ s)) (λ h. omega (arith, length-append u s)) (λ h. omega (arith, length-append u s)))
 
-    go : (b : Bool) → inside s (placeOf i) ≡ b → runAt p (u ++ s) (placeOf (8 * length u + i)) ≡ atFurther (length u) (runAt p s (placeOf i))
-    go true t =
-        let h = inside-in s (placeOf i) t in
-        let g : In (u ++ s) (placeOf (8 * length u + i)) = record { bit = omega arith; end = omega (arith, h .end, length-append u s) } in
-        runAt-in p g ∙ ap₂ (λ l j. toAt (run p l j)) (bitsOfBytes-append u s) (place-position (8 * length u + i) ∙ ap (λ n. n + i) (sym long))
-        ∙ ap toAt (run-further (bitsOfBytes u) (bitsOfBytes s) f i) ∙ toAt-further (length u) (bitsOfBytes u) (bitsOfBytes s) long (run p (bitsOfBytes s) i)
-        ∙ ap (atFurther (length u)) (ap (λ j. toAt (run p (bitsOfBytes s) j)) (sym (place-position i)) ∙ sym (runAt-in p h))
-    go false t =
-        runAt-out p (u ++ s) (placeOf (8 * length u + i)) (outside-end (u ++ s) (placeOf (8 * length u + i)) (omega arith) (omega (arith, past s i t, length-append u s)))
-        ∙ ap (atFurther (length u)) (sym (runAt-out p s (placeOf i) t))
+    go : (b : Bool) → cond b (toAt (run p (bitsOfBytes (u ++ s)) (position (placeFurther (length u) at)))) shortAt ≡ atFurther (length u) (cond b (toAt (run p (bitsOfBytes s) (position at))) shortAt)
+    go true =
+        let long = length-bitsOfBytes u in
+        ap₂ (λ l j. toAt (run p l j)) (bitsOfBytes-append u s) (let e : position (placeFurther (length u) at) ≡ length (bitsOfBytes u) + position at = omega arith in e)
+        ∙ ap toAt (run-further (bitsOfBytes u) (bitsOfBytes s) f (position at)) ∙ toAt-further (length u) (bitsOfBytes u) (bitsOfBytes s) long (run p (bitsOfBytes s) (position at))
+    go false = refl
