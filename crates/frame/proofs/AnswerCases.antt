@@ -19,7 +19,7 @@ use Rattle.rfc9639.specs.declared.FrameHeader.{FrameHeader}
 use Rattle.rfc9639.specs.declared.Settings.{Settings}
 use Rattle.rfc9639.specs.HeaderCodes.{channelCount}
 use Rattle.rfc9639.specs.Header.{header, sampleCount}
-use Rattle.rfc9639.specs.Stream.{possible, blockFits, firstSample}
+use Rattle.rfc9639.specs.Stream.{possible, completed, bitsRead, bitsFit, blockFits, firstSample}
 use Rattle.rfc9639.specs.Frame.{ReaderSettings, body}
 use Rattle.rfc9639.specs.Read.{accepted, Result, untouched, zeroed, cutShort, result, read}
 use Rattle.demands.proofs.FrameByFrame.{no-header as empty-header}
@@ -87,48 +87,49 @@ module _ (given : Settings) (s : List ℕ) (b : List ℤ) where
         go true f h = reads-untouched e (cases.header-short set s ok h ∙ ap untouched (cutShort-nonempty s some ∙ sym (eqb-true (numberOf e) 2 f)))
         go false f h = reads-untouched e (cases.header-refused set s ok (numberOf e) h)
 
-    -- ---- after a header
+    -- ---- after a header: `own` as it was read, and `h` with the stream's values
 
-    module _ {h : FrameHeader} {p : Place} (e : runAt header s (placeOf 0) ≡ gotAt h p) where
+    module _ {own h : FrameHeader} {p : Place} (e : runAt header s (placeOf 0) ≡ gotAt own p) (whole : h ≡ completed (given .stream) own) where
       some-bytes : length s ≡ 0 → ⊥
       some-bytes f = let d = no-header s f in let z : _≡_ {A = ℕ} 0 1 = cc in omega arith
 
-      pub no-bits : h .bits ≡ 0 → Reads (read given s b) (ReadAnswer.Refused NotDone) b
-      no-bits f = reads-untouched NotDone (cases.no-bits set s ok e (omega arith))
+      pub no-bits : bitsRead (h .bits) ≡ false → Reads (read given s b) (ReadAnswer.Refused NotDone) b
+      no-bits none = reads-untouched NotDone (cases.no-bits set s ok e whole none)
 
-      module _ (deep : h .bits ≡ 0 → ⊥) where
-        some-bits : 0 < h .bits
-        some-bits = omega arith
+      module _ (some : bitsRead (h .bits) ≡ true) where
+        pub other-bits : bitsFit (given .stream) (h .bits) ≡ false → Reads (read given s b) (ReadAnswer.Refused BadShape) b
+        other-bits other = reads-untouched BadShape (cases.other-bits set s ok e whole some other)
 
-        pub larger-block : blockFits (given .block) (h .time) (h .size) ≡ false → Reads (read given s b) (ReadAnswer.Refused BadShape) b
-        larger-block larger = reads-untouched BadShape (cases.larger-block set s ok e some-bits larger)
+        module _ (equal : bitsFit (given .stream) (h .bits) ≡ true) where
+          pub larger-block : blockFits (given .block) (h .time) (h .size) ≡ false → Reads (read given s b) (ReadAnswer.Refused BadShape) b
+          larger-block larger = reads-untouched BadShape (cases.larger-block set s ok e whole some equal larger)
 
-        module _ (within : blockFits (given .block) (h .time) (h .size) ≡ true) where
-          pub no-room : length b < sampleCount h → Reads (read given s b) (ReadAnswer.Refused NoRoom) b
-          no-room less = reads-untouched NoRoom (cases.no-room set s ok e some-bits within less)
+          module _ (within : blockFits (given .block) (h .time) (h .size) ≡ true) where
+            pub no-room : length b < sampleCount h → Reads (read given s b) (ReadAnswer.Refused NoRoom) b
+            no-room less = reads-untouched NoRoom (cases.no-room set s ok e whole some equal within less)
 
-          module _ (fits : sampleCount h ≤ length b) where
-            pub no-first-bit : runAt (bits 1) s p ≡ shortAt → Reads (read given s b) (ReadAnswer.Refused CutShort) b
-            no-first-bit f = reads-untouched CutShort (cases.no-first-bit set s ok e some-bits within fits f ∙ ap untouched (cutShort-nonempty s some-bytes))
+            module _ (fits : sampleCount h ≤ length b) where
+              pub no-first-bit : runAt (bits 1) s p ≡ shortAt → Reads (read given s b) (ReadAnswer.Refused CutShort) b
+              no-first-bit f = reads-untouched CutShort (cases.no-first-bit set s ok e whole some equal within fits f ∙ ap untouched (cutShort-nonempty s some-bytes))
 
-            -- what the decoder of the body left is the front of the buffer
-            module _ {v : ℕ} {q : Place} (f : runAt (bits 1) s p ≡ gotAt v q) {r : Decoded} {front left : List ℤ} (leaves : Left (runAt (body h) s p) (sampleCount h) r front)
-                (stands : left ≡ front ++ drop (sampleCount h) b) where
-              pub body-read : {end : Place} → r ≡ Done end → length front ≡ sampleCount h
-                  → {first : FirstSample} {channels : ℕ} → first ≡ firstSample (given .block) (h .time) → channels ≡ channelCount (h .channels)
-                  → Reads (read given s b) (ReadAnswer.Frame (record { consumed = end .byte; first = first; channels = channels; bits = h .bits; size = h .size })) left
-              unfolding accepted
-              body-read {end} d long i j =
-                  reads-result (cases.body-read set s ok e some-bits within fits f (done-is front (leaves .answer) d))
-                  (ap₂ (λ (x : FirstSample) (y : ℕ). record { number = 0; consumed = end .byte; first = x; channels = y; bits = h .bits; size = h .size }) i j)
-                  (stands ∙ ap (λ n. front ++ drop n b) (sym long))
+              -- what the decoder of the body left is the front of the buffer
+              module _ {v : ℕ} {q : Place} (f : runAt (bits 1) s p ≡ gotAt v q) {r : Decoded} {front left : List ℤ} (leaves : Left (runAt (body h) s p) (sampleCount h) r front)
+                  (stands : left ≡ front ++ drop (sampleCount h) b) where
+                pub body-read : {end : Place} → r ≡ Done end → length front ≡ sampleCount h
+                    → {first : FirstSample} {channels : ℕ} → first ≡ firstSample (given .block) (h .time) → channels ≡ channelCount (h .channels)
+                    → Reads (read given s b) (ReadAnswer.Frame (record { consumed = end .byte; first = first; rate = h .rate; channels = channels; bits = h .bits; size = h .size })) left
+                unfolding accepted
+                body-read {end} d long i j =
+                    reads-result (cases.body-read set s ok e whole some equal within fits f (done-is front (leaves .answer) d))
+                    (ap₂ (λ (x : FirstSample) (y : ℕ). record { number = 0; consumed = end .byte; first = x; rate = h .rate; channels = y; bits = h .bits; size = h .size }) i j)
+                    (stands ∙ ap (λ n. front ++ drop n b) (sym long))
 
-              pub body-refused : {x : Refusal} → r ≡ Refused x → Reads (read given s b) (ReadAnswer.Refused x) left
-              body-refused {x} d = reads-zeroed x h (go (eqb (numberOf x) 2) refl (refused-is front (leaves .answer) d)) (stands ∙ ap (λ l. l ++ drop (sampleCount h) b) zeros)
-                where
-                  zeros : front ≡ replicate (sampleCount h) (pos 0)
-                  zeros = subst (λ y. cleared y (sampleCount h) front) d (leaves .stopped)
+                pub body-refused : {x : Refusal} → r ≡ Refused x → Reads (read given s b) (ReadAnswer.Refused x) left
+                body-refused {x} d = reads-zeroed x h (go (eqb (numberOf x) 2) refl (refused-is front (leaves .answer) d)) (stands ∙ ap (λ l. l ++ drop (sampleCount h) b) zeros)
+                  where
+                    zeros : front ≡ replicate (sampleCount h) (pos 0)
+                    zeros = subst (λ y. cleared y (sampleCount h) front) d (leaves .stopped)
 
-                  go : (y : Bool) → eqb (numberOf x) 2 ≡ y → runAt (body h) s p ≡ cond y shortAt (refusedAt (numberOf x)) → result set s ≡ zeroed (numberOf x) h
-                  go true g k = cases.body-short set s ok e some-bits within fits f k ∙ ap (λ n. zeroed n h) (sym (eqb-true (numberOf x) 2 g))
-                  go false g k = cases.body-refused set s ok e some-bits within fits f (numberOf x) k
+                    go : (y : Bool) → eqb (numberOf x) 2 ≡ y → runAt (body h) s p ≡ cond y shortAt (refusedAt (numberOf x)) → result set s ≡ zeroed (numberOf x) h
+                    go true g k = cases.body-short set s ok e whole some equal within fits f k ∙ ap (λ n. zeroed n h) (sym (eqb-true (numberOf x) 2 g))
+                    go false g k = cases.body-refused set s ok e whole some equal within fits f (numberOf x) k

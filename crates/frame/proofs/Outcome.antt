@@ -11,7 +11,7 @@ use Rattle.frame.proofs.read_frame
 
 -- the frame that a report describes
 reported : Report → Accepted
-reported r = record { consumed = r .consumed; first = r .first; channels = r .channels; bits = r .bits; size = r .size }
+reported r = record { consumed = r .consumed; first = r .first; rate = r .rate; channels = r .channels; bits = r .bits; size = r .size }
 
 pub report-tells : (r r′ : ReadAnswer) → reportOf r ≡ reportOf r′ → r ≡ r′
 unfolding refusal reported

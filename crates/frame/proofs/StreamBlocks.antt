@@ -1,36 +1,21 @@
--- The stream's block: settings that a stream can have, a block that fits it, and the number of a frame's first sample.
--- Assumes nothing.
-use Prim.Native.Nat.{ℕ, _*_, _^_, _≤_, _<_}
+-- The stream's block: a block that fits it, and the number of a frame's first sample. Assumes nothing.
+use Prim.Native.Nat.{ℕ, _*_, _^_, _<_}
 use native.Mathlib.Nat.{mul-le-mul, lt-of-le-of-lt}
 use native.Mathlib.Omega.{arith}
 use mathlib.Core.Path.{_≡_, refl}
-use mathlib.Core.Bool.{Bool, true, false, _&&_}
-use borrow.Author.Tests.{leb-true, lt-ltb, le-ltb}
+use mathlib.Core.Bool.{true}
+use borrow.Author.Tests.{leb-true}
 use lib.Dec.{leb, ltb}
+use Rattle.reading.proofs.ByteRuns.{and-snd}
 use Rattle.rfc9639.specs.declared.BlockTime.{BlockTime}
 use Rattle.rfc9639.specs.declared.BlockTime.the-variants.{FrameNumber, SampleNumber}
 use Rattle.rfc9639.specs.declared.FirstSample.{FirstSample}
-use Rattle.rfc9639.specs.declared.Settings.{Settings}
 use Rattle.rfc9639.specs.declared.StreamBlock.{StreamBlock}
-use Rattle.rfc9639.specs.Stream.{inRange, possible, blockFits, firstSample}
+use Rattle.rfc9639.specs.Stream.{inRange, blockFits, firstSample}
 use Rattle.demands.proofs.Headers.{numberIn}
 use Rattle.frame.specs.Private.{FitsU64}
 
 -- ---- by the cases of the block and of the time
-
-module _ (set : Settings) where
-  pub possible-unknown : set .block ≡ StreamBlock.Unknown → possible set ≡ true
-  unfolding possible inRange
-  possible-unknown e = rw e refl
-
-  module _ {size : ℕ} (e : set .block ≡ StreamBlock.Known size) where
-    pub possible-some : 0 < size → possible set ≡ leb size 65535
-    unfolding possible inRange
-    possible-some h = rw (e, lt-ltb 0 size h) refl
-
-    pub possible-none : size ≤ 0 → possible set ≡ ltb 0 size
-    unfolding possible inRange
-    possible-none h = rw (e, le-ltb 0 size h) refl
 
 module _ (block : StreamBlock) (time : BlockTime) where
   pub fits-unknown : block ≡ StreamBlock.Unknown → (own : ℕ) → blockFits block time own ≡ true
@@ -60,16 +45,9 @@ module _ (block : StreamBlock) (time : BlockTime) where
 
 -- ---- a number of 36 bits times a block size of 16 fits 64
 
-both-true : (a b : Bool) → (a && b) ≡ true → b ≡ true
-both-true true b e = e
-both-true false b e = absurd (let z : _≡_ {A = ℕ} 0 1 = cc in omega arith)
-
-pub first-fits : (set : Settings) (time : BlockTime) → possible set ≡ true → numberIn time < 2 ^ 36 → FitsU64 (firstSample (set .block) time)
-unfolding possible inRange firstSample numberIn
-first-fits set time ok h = go (set .block) time ok h
-  where
-    go : (block : StreamBlock) (time : BlockTime) → inRange block ≡ true → numberIn time < 2 ^ 36 → FitsU64 (firstSample block time)
-    go block (SampleNumber n) ok h = omega arith
-    go StreamBlock.Unknown (FrameNumber n) ok h = tt
-    go (StreamBlock.Known size) (FrameNumber n) ok h =
-        lt-of-le-of-lt (mul-le-mul {n₂ = 65535} {m₂ = 2 ^ 36} (leb-true size 65535 (both-true (ltb 0 size) (leb size 65535) ok)) (omega arith)) (omega arith)
+pub first-fits : (block : StreamBlock) (time : BlockTime) → inRange block ≡ true → numberIn time < 2 ^ 36 → FitsU64 (firstSample block time)
+unfolding inRange firstSample numberIn
+first-fits block (SampleNumber n) ok h = omega arith
+first-fits StreamBlock.Unknown (FrameNumber n) ok h = tt
+first-fits (StreamBlock.Known size) (FrameNumber n) ok h =
+    lt-of-le-of-lt (mul-le-mul {n₂ = 65535} {m₂ = 2 ^ 36} (leb-true size 65535 (and-snd (ltb 0 size) (leb size 65535) ok)) (omega arith)) (omega arith)

@@ -11,6 +11,7 @@ reportOf (ReadAnswer.Frame f) = record {
   number = 0;
   consumed = f .consumed;
   first = f .first;
+  rate = f .rate;
   channels = f .channels;
   bits = f .bits;
   size = f .size;

@@ -1,14 +1,17 @@
 -- The parts of a header (RFC 9639 section 9.1): what the definition gets for each, by its code. Assumes nothing.
-use Prim.Native.Nat.{ℕ, _≤_, _<_}
+use Prim.Native.Nat.{ℕ, _%_, _≤_, _<_}
+use native.Mathlib.Nat.{mod-eq-of-lt, lt-of-lt-of-le}
 use native.Mathlib.Omega.{arith}
 use mathlib.Core.Path.{_≡_, refl, _∙_, subst}
 use mathlib.Core.Bool.{Bool, true, false, cond, _||_}
 use mathlib.Core.List.{List}
 use borrow.Author.Tests.{le-leb, lt-leb}
 use lib.Dec.{leb, eqb}
+use lib.Pow.{pow-mono}
 use Rattle.reading.specs.declared.Place.{Place}
-use Rattle.reading.specs.Readers.{done}
+use Rattle.reading.specs.Readers.{done, bits}
 use Rattle.reading.specs.Places.{gotAt, refusedAt, runAt, placeOf}
+use Rattle.reading.proofs.ByteRuns.{bits-below}
 use Rattle.reading.proofs.Postconditions.{Meets, holds-at}
 use Rattle.rfc9639.specs.declared.BlockTime.the-variants.{FrameNumber, SampleNumber}
 use Rattle.rfc9639.specs.declared.Codes.{Codes}
@@ -52,6 +55,10 @@ rate-few code = go (eqb code 12) (eqb code 13) (eqb code 14)
     go false true c = omega arith
     go false false true = omega arith
     go false false false = omega arith
+
+-- what is stored of it has at most 16 bits
+pub stored-few : (code : ℕ) (s : List ℕ) (at : Place) {v : ℕ} {q : Place} → runAt (bits (rateBits code)) s at ≡ gotAt v q → v % 65536 ≡ v
+stored-few code s at e = mod-eq-of-lt (lt-of-lt-of-le (bits-below (rateBits code) s at e) (pow-mono (rate-few code)))
 
 -- ---- the first four bytes
 

@@ -16,6 +16,7 @@ use Rattle.header_codes.specs.Answers.{sizeAsk, depthAsk}
 use Rattle.header_codes.proofs.block_size
 use Rattle.header_codes.proofs.size_code
 use Rattle.header_codes.proofs.rate_bits
+use Rattle.header_codes.proofs.sample_rate
 use Rattle.header_codes.proofs.channel_assignment
 use Rattle.header_codes.proofs.channel_count
 use Rattle.header_codes.proofs.bit_depth
@@ -43,6 +44,9 @@ size-code-one κs args r r′ left left′ p q = (one-value p q, refl)
 
 pub rate-bits-one : OneOutcome rate_bits.ended rate_bits.Reads.Learnt
 rate-bits-one κs args r r′ left left′ p q = (one-value p q, refl)
+
+pub sample-rate-one : OneOutcome sample_rate.ended sample_rate.Reads.Learnt
+sample-rate-one κs args r r′ left left′ p q = (one-value p q, refl)
 
 pub channel-assignment-one : OneOutcome channel_assignment.ended channel_assignment.Reads.Learnt
 channel-assignment-one κs args r r′ left left′ p q = (one-value p q, refl)

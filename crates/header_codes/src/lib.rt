@@ -2,9 +2,10 @@
 // function answers on every code and every value as the definition does (rfc9639/specs/HeaderCodes.antt).
 use error::Refusal;
 use rfc9639::ChannelAssignment;
+use rfc9639::SampleRate;
 ghost use mathlib.Core.Path.{_≡_};
 ghost use Prim.Native.Nat.{_%_};
-ghost use Rattle.rfc9639.specs.HeaderCodes.{blockSize, sizeCode, rateBits, assignment, channelCount, bitDepth, bitsCode};
+ghost use Rattle.rfc9639.specs.HeaderCodes.{blockSize, sizeCode, rateBits, sampleRate, assignment, channelCount, bitDepth, bitsCode};
 ghost use Rattle.header_codes.specs.Answers.{sizeAsk, depthAsk};
 
 // What the code of a block size says: the size in samples, or that the size less one follows the coded number (RFC
@@ -76,6 +77,31 @@ pub fn rate_bits(code: u64) -> u32
         return 16;
     }
     0
+}
+
+// The sample rate by its code and by what is stored after the coded number (RFC 9639 sections 9.1.2 and 9.1.7), in 16
+// bits at most; any above them are ignored.
+pub fn sample_rate(code: u64, stored: u64) -> SampleRate
+    ensures { λ r. ⌜ r ≡ sampleRate code (stored % 65536) ⌝ }
+{
+    let low = (stored % 65536) as u32;
+    match code {
+        1 => SampleRate::Known(88200),
+        2 => SampleRate::Known(176400),
+        3 => SampleRate::Known(192000),
+        4 => SampleRate::Known(8000),
+        5 => SampleRate::Known(16000),
+        6 => SampleRate::Known(22050),
+        7 => SampleRate::Known(24000),
+        8 => SampleRate::Known(32000),
+        9 => SampleRate::Known(44100),
+        10 => SampleRate::Known(48000),
+        11 => SampleRate::Known(96000),
+        12 => SampleRate::Known(low * 1000),
+        13 => SampleRate::Known(low),
+        14 => SampleRate::Known(low * 10),
+        _ => SampleRate::Unknown,
+    }
 }
 
 // How the channels are stored (RFC 9639 section 9.1.3). Callers refuse the reserved codes, 11 to 15, before.

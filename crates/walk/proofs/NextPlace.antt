@@ -22,7 +22,7 @@ use Rattle.frame.specs.declared.Accepted.{Accepted}
 use Rattle.frame.specs.declared.ReadAnswer.{ReadAnswer}
 use Rattle.frame.specs.Reads.{reportOf, Reads}
 use Rattle.demands.proofs.Demand3.{counted-some}
-use Rattle.demands.proofs.StreamSettings.{refused-settings, short-settings}
+use Rattle.demands.proofs.StreamSettings.{blocksOnly, refused-settings, short-settings}
 use Rattle.frame.proofs.Callers.{buffer-length, bytes-there, samples-there}
 use Rattle.walk.specs.declared.Step.{Step}
 use Rattle.walk.specs.Steps.{Steps}
@@ -61,10 +61,10 @@ module _ (s : List ℕ) (place : ℕ) (set : Settings) (b : List ℤ) {left : Li
 
 -- ---- the settings of a stream that does not start with a header
 
-pub no-header-settings : (s : List ℕ) (e : Refusal) → runAt header s (placeOf 0) ≡ refusedBy e → streamSettings s ≡ record { block = StreamBlock.Unknown }
+pub no-header-settings : (s : List ℕ) (e : Refusal) → runAt header s (placeOf 0) ≡ refusedBy e → streamSettings s ≡ blocksOnly StreamBlock.Unknown
 no-header-settings s e = go (eqb (numberOf e) 2)
   where
-    go : (b : Bool) → runAt header s (placeOf 0) ≡ cond b shortAt (refusedAt (numberOf e)) → streamSettings s ≡ record { block = StreamBlock.Unknown }
+    go : (b : Bool) → runAt header s (placeOf 0) ≡ cond b shortAt (refusedAt (numberOf e)) → streamSettings s ≡ blocksOnly StreamBlock.Unknown
     go true f = short-settings s f
     go false f = refused-settings s f
 

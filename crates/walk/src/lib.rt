@@ -6,6 +6,7 @@ use frame::ReadAnswer;
 use header::HeaderRead;
 use rfc9639::Settings;
 use rfc9639::StreamBlock;
+use rfc9639::StreamRecord;
 ghost use mathlib.Core.Path.{_≡_};
 ghost use Rattle.rfc9639.specs.FrameByFrame.{streamSettings};
 ghost use Rattle.walk.specs.Steps.{Steps};
@@ -32,8 +33,8 @@ pub fn read_next(s: &[u8], place: usize, set: Settings, samples: &mut [i32]) -> 
     }
 }
 
-// What a stream says about itself: the size of its blocks is that of the first, whatever the blocking. It is unknown if
-// the input does not start with a frame header.
+// What a stream without a stream header says about itself: the size of its blocks is that of the first, whatever the
+// blocking. It is unknown if the input does not start with a frame header.
 pub fn stream_settings(s: &[u8]) -> Settings
     ensures { λ r. ⌜ r ≡ streamSettings (now (s .entry)) ⌝ }
 {
@@ -41,9 +42,11 @@ pub fn stream_settings(s: &[u8]) -> Settings
     match first {
         HeaderRead::Header(h, _) => Settings {
             block: StreamBlock::Known(h.size),
+            stream: StreamRecord::Unknown,
         },
         HeaderRead::Refused(_) => Settings {
             block: StreamBlock::Unknown,
+            stream: StreamRecord::Unknown,
         },
     }
 }

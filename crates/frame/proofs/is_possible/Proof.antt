@@ -1,24 +1,23 @@
--- Whether a stream can have these settings, by the case of its block. Assumes nothing.
-use mathlib.Core.Path.{sym}
+-- Whether a stream can have these settings: its block, and then its record. Assumes nothing.
+use mathlib.Core.Path.{sym, _∙_}
 use borrow.Author.Needs.{needs}
-use Rattle.frame.proofs.StreamBlocks.{possible-unknown, possible-some, possible-none}
+use Rattle.rfc9639.specs.Stream.{possible}
 use Rattle.frame.proofs.is_possible.Statement.{statement}
 use Rattle.frame.proofs.is_possible.Tie as tie
 
-enum-told : tie.Need-enum-told
-enum-told c = search needs
+block-in-range-requires : tie.Need-block-in-range-requires
+block-in-range-requires c κs = search needs
 
-enum-known-block : tie.Need-enum-known-block
-enum-known-block c = search needs
+bits-in-range-requires : tie.Need-bits-in-range-requires
+bits-in-range-requires c κs = search needs
 
 returns : tie.Need-returns
-returns c = sym (possible-unknown _ (c .enum-told .given .1))
+unfolding possible
+returns c = rw (sym (c .before .before .block-in-range .ensures) ∙ c .before .if1 .taken) (c .bits-in-range .ensures)
 
 returns-2 : tie.Need-returns-2
-returns-2 c = sym (possible-some _ (c .before .before .block .given .1) (search needs))
-
-returns-3 : tie.Need-returns-3
-returns-3 c = sym (possible-none _ (c .before .before .block .given .1) (search needs))
+unfolding possible
+returns-2 c = rw (c .if1 .left, sym (c .before .block-in-range .ensures) ∙ c .if1 .left)
 
 pub is-possible-spec : {M : Type 1} → statement M
-is-possible-spec = tie.close (tie.spec enum-told enum-known-block returns returns-2 returns-3)
+is-possible-spec = tie.close (tie.spec block-in-range-requires bits-in-range-requires returns returns-2)

@@ -2,19 +2,19 @@
 use Prim.Native.Nat.{_≤_}
 use borrow.Author.Needs.{needs}
 use native.Mathlib.Omega.{arith}
-use mathlib.Core.Path.{_≡_, sym, _∙_}
+use mathlib.Core.Path.{_≡_, ap, sym, _∙_}
 use Rattle.reading.specs.Readers.{bits}
 use Rattle.reading.specs.Places.{gotAt, shortAt, runAt}
 use Rattle.reading.proofs.ByteRuns.{bind-got, bind-short}
 use Rattle.input.proofs.Callers.{read-got, read-short}
-use Rattle.rfc9639.specs.HeaderCodes.{blockSize, rateBits}
+use Rattle.rfc9639.specs.HeaderCodes.{blockSize, rateBits, sampleRate}
 use Rattle.rfc9639.specs.Header.{blockTime, headerSum, headerAfterCodes}
 use Rattle.header.specs.Answers.{checkedAt}
 use Rattle.header.specs.Private.{numberAt, timeAt}
 use Rattle.error.proofs.Refusals.{bind-refusal}
 use Rattle.header.proofs.ReaderSteps.{answer-is, then-done}
 use Rattle.header.proofs.ByteAlignment.{moves-at, time-whole, size-whole, rate-whole}
-use Rattle.header.proofs.HeaderParts.{rate-few}
+use Rattle.header.proofs.HeaderParts.{rate-few, stored-few}
 use Rattle.header.proofs.read_header_after_codes.Statement.{statement}
 use Rattle.header.proofs.read_header_after_codes.Tie as tie
 
@@ -96,6 +96,9 @@ check-header-sum-requires c κs = rate-byte (c .before)
 enum-known-sum : tie.Need-enum-known-sum
 enum-known-sum c = search needs
 
+sample-rate-requires : tie.Need-sample-rate-requires
+sample-rate-requires c κs = search needs
+
 enum-known-sum-2 : tie.Need-enum-known-sum-2
 enum-known-sum-2 c = search needs
 
@@ -108,10 +111,11 @@ enum-known-number-2 c = search needs
 returns-2 : tie.Need-returns-2
 unfolding headerAfterCodes
 returns-2 c =
-    let u = c .before in let r = u .before .before .before .before in let b = sized r in
-    sym
+    let u = c .before .before in let r = u .before .before .before .before in let b = sized r in
+    rw (c .sample-rate .ensures ∙ ap (sampleRate (begun b .args .c .rate)) (stored-few _ _ _ (rate-is r)))
+    (sym
     (bind-got (blockTime _) _ _ _ (time-is (timed b)) ∙ bind-got (blockSize _) _ _ _ (size-is b) ∙ bind-got (bits _) _ _ _ (rate-is r)
-    ∙ then-done headerSum _ _ _ (answer-is checkedAt (u .before .before .check-header-sum .ensures) (u .sum .given .1)))
+    ∙ then-done headerSum _ _ _ (answer-is checkedAt (u .before .before .check-header-sum .ensures) (u .sum .given .1))))
 
 returns-3 : tie.Need-returns-3
 unfolding headerAfterCodes
@@ -150,6 +154,7 @@ read-header-after-codes-spec =
     returns
     check-header-sum-requires
     enum-known-sum
+    sample-rate-requires
     enum-known-sum-2
     enum-known-block-2
     enum-known-number-2
