@@ -65,6 +65,27 @@ module _ (was : List ℕ) (card : Card) (place : ℕ) (e : Refusal) (sound : Sou
       further = omega (arith, less (filled .rest) (fills .enough), one-pending);
     }
 
+drop-of-take : (k m : ℕ) (l : List ℕ) → k ≤ m → k ≤ length l → drop k (take m l) ≡ take (m - k) (drop k l)
+drop-of-take k m l h g =
+    let e : m ≡ k + (m - k) = omega arith in
+    ap (λ n. drop k (take n l)) e ∙ ap (drop k) (take-add k (m - k) l) ∙ drop-at (take k l) (take (m - k) (drop k l)) k (length-take-le k l g)
+
+-- the bytes held from a place on are where the window's bytes from its front on are kept
+pub window-kept : (was left : List ℕ) (held place : ℕ) → held ≤ length was → place ≤ held → take (held - place) left ≡ take (held - place) (drop place was)
+    → drop place (take held was) ≡ take (held - place) left
+window-kept was left held place fits inside kept = drop-of-take place held was inside (omega arith) ∙ sym kept
+
+module _ (was : List ℕ) (card : Card) (place : ℕ) (next : Card) (left : List ℕ) (c : Continues was card place next left) where
+  -- what a refill read
+  abbrev pub fresh : List ℕ
+  fresh = drop (card .held - place) (take (next .held) left)
+
+  pub window-joined : card .held ≤ length was → place ≤ card .held → drop place (take (card .held) was) ++ fresh ≡ take (next .held) left
+  window-joined fits inside =
+      ap (λ (l : List ℕ). l ++ fresh)
+      (window-kept was left (card .held) place fits inside (c .kept) ∙ sym (take-take (card .held - place) (next .held) left (c .least)))
+      ∙ take-append-drop (card .held - place) (take (next .held) left)
+
 -- ---- what a refusal asks of the caller, as a verdict
 
 unfoldable pub verdictFor : Need → Verdict
@@ -97,11 +118,6 @@ refuse-decided e n is k u = let r = verdict-needs e ∙ ap verdictFor is ∙ k i
 
 -- ---- what is listed
 
-drop-of-take : (k m : ℕ) (l : List ℕ) → k ≤ m → k ≤ length l → drop k (take m l) ≡ take (m - k) (drop k l)
-drop-of-take k m l h g =
-    let e : m ≡ k + (m - k) = omega arith in
-    ap (λ n. drop k (take n l)) e ∙ ap (drop k) (take-add k (m - k) l) ∙ drop-at (take k l) (take (m - k) (drop k l)) k (length-take-le k l g)
-
 module _ (room : ℕ) (was : List ℕ) (card : Card) (r : Listed) (sound : Sound card (length was)) (lists : Lists (take (card .held) was) (card .base) (card .totals) room r) where
   abbrev w : List ℕ
   w = take (card .held) was
@@ -125,26 +141,20 @@ module _ (room : ℕ) (was : List ℕ) (card : Card) (r : Listed) (sound : Sound
     listed-from-place = listed-goes-on room (card .base) (card .totals) w (r .place) (sound .bits) (lists .all) (wait-undecided (r .refusal) wait)
 
     module _ (next : Card) (left : List ℕ) (long : length left ≡ length was) (c : Continues was read (r .place) next left) where
-      abbrev keptLength : ℕ
-      keptLength = card .held - r .place
-
       abbrev added : List ℕ
-      added = drop keptLength (take (next .held) left)
+      added = fresh was read (r .place) next left c
 
-      window-joined : drop (r .place) w ++ added ≡ take (next .held) left
-      window-joined =
-          ap (λ (l : List ℕ). l ++ added)
-          (drop-of-take (r .place) (card .held) was listed-place-held (omega (arith, listed-place-held, sound .held-fits)) ∙ sym (c .kept) ∙ sym (take-take keptLength (next .held) left (c .least)))
-          ∙ take-append-drop keptLength (take (next .held) left)
+      joined : drop (r .place) w ++ added ≡ take (next .held) left
+      joined = window-joined was read (r .place) next left c (sound .held-fits) listed-place-held
 
       carries : Carries room was card next left
       carries = record {
         added = added;
         long =
-            omega (arith, c .next-base, c .least, listed-place-held, length-drop keptLength (take (next .held) left), length-take-le (next .held) left (omega (arith, c .sound .held-fits)));
+            omega (arith, c .next-base, c .least, listed-place-held, length-drop (card .held - r .place) (take (next .held) left), length-take-le (next .held) left (omega (arith, c .sound .held-fits)));
         same = λ more.
             listed-from-place (added ++ more)
-            ∙ ap (λ (l : List ℕ). listed room (card .base + r .place) (r .totals) l) (sym (append-assoc (drop (r .place) w) added more) ∙ ap (λ (l : List ℕ). l ++ more) window-joined)
+            ∙ ap (λ (l : List ℕ). listed room (card .base + r .place) (r .totals) l) (sym (append-assoc (drop (r .place) w) added more) ∙ ap (λ (l : List ℕ). l ++ more) joined)
             ∙ ap₂ (λ b (t : Totals). listed room b t (take (next .held) left ++ more)) (sym (c .next-base)) (sym (c .same-totals));
         sound = c .sound;
         further = c .further;

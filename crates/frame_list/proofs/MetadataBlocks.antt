@@ -1,22 +1,24 @@
--- The metadata blocks of a card, head by head: each head says where the next block starts, and a head that is in a window of the card is
--- the card's. Assumes nothing.
-use Prim.Native.Nat.{ℕ, zero, suc, _+_, _-_, _*_, _^_, _≤_, _<_}
+-- The metadata blocks of a card, head by head: each head says where the next block starts, and a head that is in a window
+-- of the card is the card's. Assumes nothing.
+use Prim.Native.Nat.{ℕ, zero, suc, _+_, _*_, _^_, _≤_, _<_}
 use native.Mathlib.Omega.{arith}
-use mathlib.Core.Path.{_≡_, refl, ap, ap₂, sym, _∙_, subst}
-use mathlib.Core.Bool.{Bool, true, false, cond}
-use mathlib.Core.List.{List, [], _∷_, _++_}
+use mathlib.Core.Path.{_≡_, refl, ap, sym, _∙_, subst}
+use mathlib.Core.Bool.{Bool, true, false}
+use mathlib.Core.List.{List, _++_}
 use borrow.Author.Tests.{leb-true, leb-false}
-use lib.Dec.{ltb, eqb, leb}
-use lib.ListN.{length, drop, length-drop}
+use lib.Dec.{ltb, leb}
+use lib.ListN.{length}
 use Rattle.reading.specs.declared.Place.{Place}
-use Rattle.reading.specs.Readers.{Ask, done, stop, _>>=_, bits, require, nextBits, Reply, found, cut, bitsFrom, reply}
-use Rattle.reading.specs.Bytes.{bitsOfBytes}
-use Rattle.reading.specs.Places.{position, placeOf, inside, At, gotAt, refusedAt, shortAt, runAt}
-use Rattle.reading.proofs.Bits.{length-bitsOfBytes, bitsReply}
-use Rattle.reading.proofs.ByteRuns.{In, inside-in, outside-end, place-is, position-place, runAt-done, runAt-out, runAt-ask, ofReply, stays-in, runAt-bind, bind-is, bind-got, bind-refused, bind-short, bind-parts, require-parts, bits-end, bits-below}
+use Rattle.reading.specs.Readers.{Ask, done, _>>=_, bits}
+use Rattle.reading.specs.Places.{position, placeOf, At, gotAt, refusedAt, shortAt, runAt}
+use Rattle.reading.proofs.ByteRuns.{In, outside-end, place-is, position-place, runAt-done, runAt-out, stays-in, runAt-bind, bind-is, bind-got, bind-refused, bind-short}
 use Rattle.reading.proofs.BytePrefixes.{runAt-append}
-use Rattle.reading.proofs.Shifted.{Forward, value, forward-bind, forward-bits, forward-require, placeFurther, atFurther, runAt-further}
+use Rattle.reading.proofs.BitsTaken.{bits-there, bits-short}
+use Rattle.reading.proofs.Postconditions.{Meets, holds-at}
+use Rattle.reading.proofs.Shifted.{Forward, value, forward-bind, forward-bits, forward-require, atFurther, runAt-further}
 use Rattle.rfc9639.specs.StreamHeader.{lastAndType, blockHead, skippedBlock, skippedBlocks}
+use Rattle.rfc9639.proofs.StreamHeaderBits.{head-takes}
+use Rattle.rfc9639.proofs.StreamHeaderValues.{StreamRefusal, head-holds}
 use Rattle.frame_list.specs.Opening.{byteAt, blocksAfter, blocksFrom}
 
 -- ---- a block's head
@@ -34,47 +36,18 @@ pub record Head (s : List ℕ) (at size : ℕ) (end : Place) : Type 0 where
   pub there : at + 4 ≤ length s
   pub few : size < 2 ^ 24
 
--- the byte of its type
-type-is : (s : List ℕ) (at : ℕ) {x : Bool × ℕ} {end : Place} → runAt lastAndType s (byteAt at) ≡ gotAt x end → position end ≡ 8 * at + 8
-unfolding lastAndType
-type-is s at {x} {end} e =
-    let a = bind-parts (bits 1) _ s (byteAt at) e in
-    let b = bind-parts (bits 7) _ s (a .1) (a .3) in
-    let c = bind-parts (require (ltb (b .0) 127) 4) _ s (b .1) (b .3) in
-    let d = require-parts (ltb (b .0) 127) 4 s (b .1) (stays-in (bits 7) s (a .1) (b .2)) (c .2) in
-    let f : c .1 ≡ end = let g = sym (runAt-done (eqb (a .0) 1, b .0) (stays-in (require (ltb (b .0) 127) 4) s (b .1) (c .2))) ∙ c .3 in cc in
-    sym (ap position f) ∙ ap position (d .1) ∙ bits-end 7 s (a .1) (b .2) ∙ omega (arith, bits-end 1 s (byteAt at) (a .2))
-
 pub head-is : (s : List ℕ) (at : ℕ) {last : Bool} {size : ℕ} {end : Place} → runAt blockHead s (byteAt at) ≡ gotAt (last, size) end → Head s at size end
-unfolding blockHead
 head-is s at {last} {size} {end} e =
-    let a = bind-parts lastAndType _ s (byteAt at) e in
-    let b = bind-parts (bits 24) _ s (a .1) (a .3) in
-    let g = sym (runAt-done (a .0 .0, b .0) (stays-in (bits 24) s (a .1) (b .2))) ∙ b .3 in
-    let p : b .1 ≡ end = cc in
-    let w : _≡_ {A = Bool × ℕ} (a .0 .0, b .0) (last, size) = cc in
-    let v : b .0 ≡ size = ap (λ (x : Bool × ℕ). x .1) w in
     let i = stays-in blockHead s (byteAt at) e in
-    let far : position end ≡ 8 * (at + 4) = sym (ap position p) ∙ bits-end 24 s (a .1) (b .2) ∙ omega (arith, type-is s at (a .2)) in
+    let x = head-takes .taken s (byteAt at) (last, size) end e in
+    let far : position end ≡ 8 * (at + 4) = omega (arith, x .1, x .2) in
     record {
       ends = sym (position-place end (i .bit)) ∙ ap placeOf far ∙ sym (place-is (at + 4) 0 (8 * (at + 4)) (omega arith) (omega arith));
       there = omega (arith, i .end);
-      few = omega (arith, bits-below 24 s (a .1) (b .2));
+      few = subst (Meets StreamRefusal (λ (y : Bool × ℕ). y .1 < 2 ^ 24)) e (holds-at StreamRefusal (λ (y : Bool × ℕ). y .1 < 2 ^ 24) s (byteAt at) head-holds);
     }
 
 -- ---- its contents
-
-enough : (n acc i : ℕ) (r : List ℕ) → n ≤ length r → (v : ℕ) × (bitsFrom n acc i r ≡ found v (i + n))
-unfolding bitsFrom
-enough zero acc i r h = (acc, ap (found acc) (omega arith))
-enough (suc n) acc i [] h = absurd (omega arith)
-enough (suc n) acc i (b ∷ r) h = let x = enough n (acc * 2 + b) (suc i) r (omega arith) in (x .0, x .1 ∙ ap (found (x .0)) (omega arith))
-
-too-few : (n acc i : ℕ) (r : List ℕ) → length r < n → bitsFrom n acc i r ≡ cut
-unfolding bitsFrom
-too-few zero acc i r h = absurd (omega arith)
-too-few (suc n) acc i [] h = refl
-too-few (suc n) acc i (b ∷ r) h = too-few n (acc * 2 + b) (suc i) r (omega arith)
 
 module _ (s : List ℕ) (at : ℕ) where
   byte-in : at ≤ length s → In s (byteAt at)
@@ -83,24 +56,18 @@ module _ (s : List ℕ) (at : ℕ) where
   byte-out : {A : Type 0} (p : Ask A) → length s < at → runAt p s (byteAt at) ≡ shortAt
   byte-out p h = runAt-out p s (byteAt at) (outside-end s (byteAt at) (omega arith) (omega arith))
 
-  long : length (drop (position (byteAt at)) (bitsOfBytes s)) ≡ 8 * length s - 8 * at
-  long = length-drop (position (byteAt at)) (bitsOfBytes s) ∙ omega (arith, length-bitsOfBytes s)
-
   -- a reader after some bytes that are not looked at reads from the byte after them
   pub after-bytes : {A : Type 0} (size : ℕ) (p : Ask A) → at ≤ length s → runAt (bits (8 * size) >>= (λ _. p)) s (byteAt at) ≡ runAt p s (byteAt (at + size))
-  unfolding bits reply ofReply
   after-bytes size p h = go (leb (at + size) (length s)) refl
     where
       go : (b : Bool) → leb (at + size) (length s) ≡ b → runAt (bits (8 * size) >>= (λ _. p)) s (byteAt at) ≡ runAt p s (byteAt (at + size))
       go true e =
-          let x = enough (8 * size) 0 (position (byteAt at)) (drop (position (byteAt at)) (bitsOfBytes s)) (omega (arith, long, leb-true (at + size) (length s) e)) in
+          let x = bits-there (8 * size) (byte-in h) (omega (arith, leb-true (at + size) (length s) e)) in
           bind-got (bits (8 * size)) s (byteAt at) (λ _. p)
-          (runAt-ask (nextBits (8 * size)) (byte-in h) ∙ ap ofReply (x .1)
-          ∙ ap (gotAt (x .0)) (sym (place-is (at + size) 0 (position (byteAt at) + 8 * size) (omega arith) (omega arith))))
+          (x .1 ∙ ap (gotAt (x .0)) (sym (place-is (at + size) 0 (position (byteAt at) + 8 * size) (omega arith) (omega arith))))
       go false e =
           let k = leb-false (at + size) (length s) e in
-          bind-short (bits (8 * size)) s (byteAt at) (λ _. p)
-          (runAt-ask (nextBits (8 * size)) (byte-in h) ∙ ap ofReply (too-few (8 * size) 0 (position (byteAt at)) (drop (position (byteAt at)) (bitsOfBytes s)) (omega (arith, long))))
+          bind-short (bits (8 * size)) s (byteAt at) (λ _. p) (bits-short (8 * size) (byte-in h) (omega arith))
           ∙ sym (runAt-out p s (byteAt (at + size)) (outside-end s (byteAt (at + size)) (omega arith) (omega arith)))
 
 -- ---- the blocks after a head
