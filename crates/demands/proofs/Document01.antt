@@ -2,7 +2,7 @@
 -- without a stream's record. Assumes nothing.
 use Prim.Native.Nat.{ℕ, _*_}
 use native.Mathlib.Omega.{arith}
-use mathlib.Core.Bool.{Bool, true, false}
+use mathlib.Core.Bool.{true}
 use mathlib.Core.Path.{_≡_, refl, ap, ap₂, sym, _∙_}
 use mathlib.Core.List.{List}
 use borrow.Author.Tests.{le-leb}
@@ -21,14 +21,14 @@ use Rattle.rfc9639.specs.declared.StreamBlock.{StreamBlock}
 use Rattle.rfc9639.specs.declared.StreamRecord.{StreamRecord}
 use Rattle.rfc9639.specs.HeaderCodes.{channelCount}
 use Rattle.rfc9639.specs.Header.{header, sampleCount}
-use Rattle.rfc9639.specs.Stream.{possible, completed, bitsRead, bitsFit, blockFits, firstSample}
+use Rattle.rfc9639.specs.Stream.{possible, completed, bitsFit, blockFits, firstSample}
 use Rattle.rfc9639.specs.Frame.{ReaderSettings, checked, opening, body, Frame, frame}
 use Rattle.rfc9639.specs.Read.{Report, accepted, Result, untouched, zeroed, cutShort, begun, finished, resultOf, result}
 use Rattle.rfc9639.specs.FrameByFrame.{streamSettings}
 use Rattle.demands.proofs.Headers.{header-sound}
 use Rattle.demands.proofs.FrameRuns.{alike-after}
 use Rattle.demands.proofs.StreamRecords.{few-bits-read}
-use Rattle.demands.proofs.StreamSettings.{blocksOnly, size-possible, header-settings, stream-possible}
+use Rattle.demands.proofs.StreamSettings.{size-possible, header-settings, stream-possible}
 
 -- ---- document 01's reading: as it was before there were settings
 

@@ -10,3 +10,4 @@ pub mod BufferTable
 pub mod ResultCases
 pub mod StreamSettings
 pub mod Document01
+pub mod SameBits

@@ -1,7 +1,6 @@
 -- What a stream says about itself by its first header: settings that a stream can have, which more bytes do not change
 -- once the header is decided. Assumes nothing.
 use Prim.Native.Nat.{ℕ, _≤_}
-use native.Mathlib.Omega.{arith}
 use mathlib.Core.Bool.{true}
 use mathlib.Core.Path.{_≡_, refl, ap}
 use mathlib.Core.List.{List, _++_}

@@ -14,13 +14,14 @@ use Rattle.rfc9639.specs.declared.FrameSetting.{FrameSetting}
 use Rattle.rfc9639.specs.declared.Settings.{Settings}
 use Rattle.rfc9639.specs.declared.StreamBlock.{StreamBlock}
 use Rattle.rfc9639.specs.HeaderCodes.{assignment, channelCount}
-use Rattle.rfc9639.specs.Stream.{possible}
-use Rattle.rfc9639.specs.Read.{Outcome, read}
+use Rattle.rfc9639.specs.Stream.{possible, bitsFit}
+use Rattle.rfc9639.specs.Read.{refusal, Outcome, read}
 use Rattle.rfc9639.specs.Write.{frameBytes, frameBound, allowed, allFit, Written, unwritten, write}
 use Rattle.rfc9639.proofs.LengthBound.{within-bound}
 use Rattle.readback.specs.FirstSample.{firstOf}
+use Rattle.readback.specs.StreamRate.{rateOf}
 use Rattle.readback.specs.Readable.{readable}
-use Rattle.readback.proofs.ReadBack.{writtenReport, read-back, smaller-refused}
+use Rattle.readback.proofs.ReadBack.{writtenReport, read-back, other-refused, smaller-refused}
 use Rattle.frame.specs.declared.ReadAnswer.{ReadAnswer}
 use Rattle.frame.proofs.Outcome.{report-tells}
 use Rattle.frame_writer.specs.declared.WriteAnswer.{WriteAnswer}
@@ -70,22 +71,32 @@ module _ {set : FrameSetting} {xs : List ℤ} {out : List ℕ} {n : ℕ} {left :
     read-is : read given (take n left ++ rest) b ≡ read given (frameBytes set xs ++ rest) b
     read-is = ap (λ (x : List ℕ). read given (x ++ rest) b) frame-first
 
+    -- the answer where the definition refuses the frame with 9
+    shape-refused : read given (frameBytes set xs ++ rest) b ≡ record { report = refusal 9; buffer = b }
+        → {r : ReadAnswer} {kept : List ℤ} → ReadFrame given (take n left ++ rest) b r kept → (r ≡ ReadAnswer.Refused BadShape) × (kept ≡ b)
+    shape-refused back {r} p = (
+      report-tells r (ReadAnswer.Refused BadShape) (reads p .report ∙ ap (λ (x : Outcome). x .report) (read-is ∙ back)),
+      reads p .samples ∙ ap (λ (x : Outcome). x .buffer) (read-is ∙ back),
+    )
+
     -- Under settings that it is readable under, in any buffer with room for the samples.
     pub written-reads-back : readable given set ≡ true → length xs ≤ length b → {r : ReadAnswer} {kept : List ℤ} → ReadFrame given (take n left ++ rest) b r kept
-        → (r ≡ ReadAnswer.Frame (record { consumed = n; first = firstOf (given .block) set; channels = channelCount (assignment (set .channels)); bits = set .bits; size = set .size }))
+        → (r ≡ ReadAnswer.Frame (record { consumed = n; first = firstOf (given .block) set; rate = rateOf (given .stream); channels = channelCount (assignment (set .channels)); bits = set .bits; size = set .size }))
         × (kept ≡ xs ++ drop (length xs) b)
     written-reads-back can room {r} p =
         let back = read-is ∙ read-back given set xs can (w .ok) (w .fit) rest b room in (
-          report-tells r _ (reads p .report ∙ ap (λ (x : Outcome). x .report) back ∙ ap (λ m. writtenReport set m (firstOf (given .block) set)) (sym (w .long))),
+          report-tells r _ (reads p .report ∙ ap (λ (x : Outcome). x .report) back ∙ ap (λ m. writtenReport set m (firstOf (given .block) set) (rateOf (given .stream))) (sym (w .long))),
           reads p .samples ∙ ap (λ (x : Outcome). x .buffer) back,
         )
 
-    -- With fixed blocking, a size given for the stream's blocks that is below the frame's is refused, in any buffer.
+    -- What is refused, in any buffer: bits that are not those of the stream's record ..
+    pub other-bits-refused : possible given ≡ true → bitsFit (given .stream) (set .bits) ≡ false
+        → {r : ReadAnswer} {kept : List ℤ} → ReadFrame given (take n left ++ rest) b r kept
+        → (r ≡ ReadAnswer.Refused BadShape) × (kept ≡ b)
+    other-bits-refused can other p = shape-refused (other-refused given set xs can other (w .ok) rest b) p
+
+    -- .. and with fixed blocking a size given for the stream's blocks that is below the frame's.
     pub smaller-size-refused : possible given ≡ true → set .blocking ≡ 0 → {size : ℕ} → given .block ≡ StreamBlock.Known size → size < set .size
         → {r : ReadAnswer} {kept : List ℤ} → ReadFrame given (take n left ++ rest) b r kept
         → (r ≡ ReadAnswer.Refused BadShape) × (kept ≡ b)
-    smaller-size-refused can fixed known less {r} p =
-        let back = read-is ∙ smaller-refused given set xs can fixed known less (w .ok) rest b in (
-          report-tells r (ReadAnswer.Refused BadShape) (reads p .report ∙ ap (λ (x : Outcome). x .report) back),
-          reads p .samples ∙ ap (λ (x : Outcome). x .buffer) back,
-        )
+    smaller-size-refused can fixed known less p = shape-refused (smaller-refused given set xs can fixed known less (w .ok) rest b) p

@@ -13,8 +13,9 @@ use Rattle.reading.proofs.NumbersAsBits.{bitsOf-split, bitsOf-mod}
 use Rattle.rfc9639.specs.declared.Codes.{Codes}
 use Rattle.rfc9639.specs.declared.FrameHeader.{FrameHeader}
 use Rattle.rfc9639.specs.declared.FrameSetting.{FrameSetting}
+use Rattle.rfc9639.specs.declared.SampleRate.{SampleRate}
 use Rattle.rfc9639.specs.CheckSums.{crc8}
-use Rattle.rfc9639.specs.HeaderCodes.{assignment, blockSize, rateBits, sizeCode, sizeBits, bitsCode}
+use Rattle.rfc9639.specs.HeaderCodes.{assignment, blockSize, rateBits, sampleRate, sizeCode, sizeBits, bitsCode}
 use Rattle.rfc9639.specs.Header.{timeOf, sync, sizeAndRate, depthAndZero, channelsAndBits, codes, blockTime, headerSum, headerAfterCodes, header}
 use Rattle.rfc9639.specs.Write.{numberBytes, codeBits, fieldBits, headerBits, numberLimit}
 use Rattle.rfc9639.proofs.CheckSums.{crc8-below}
@@ -125,10 +126,11 @@ spells-sum {before} =
 
 -- ---- the whole header
 
-abbrev pub headerOf : FrameSetting → FrameHeader
-headerOf set = record {
+abbrev pub headerOf : SampleRate → FrameSetting → FrameHeader
+headerOf rate set = record {
   time = timeOf (set .blocking) (set .number);
   size = set .size;
+  rate = rate;
   channels = assignment (set .channels);
   bits = set .bits;
 }
@@ -154,8 +156,8 @@ module _ (set : FrameSetting) {count : ℕ} (ok : Allowed set count) where
       (spells-bind _ (spells-sizeAndRate (sizeCode (set .size)) (size-is .some) (size-is .most))
       (spells-last _ (spells-channelsAndBits (set .channels) (ok .channels) (ok .depth)) spells-done)))
 
-  spells-after-codes : Spells (codeBits set) (headerAfterCodes codesOf) (bitsOfBytes (numberBytes (set .number)) ++ sizeBits (set .size) ++ bitsOf 8 (crc8 (fieldBits set))) (headerOf set)
-  unfolding headerAfterCodes fieldBits sizeBits codesOf rateBits bitsOf
+  spells-after-codes : Spells (codeBits set) (headerAfterCodes codesOf) (bitsOfBytes (numberBytes (set .number)) ++ sizeBits (set .size) ++ bitsOf 8 (crc8 (fieldBits set))) (headerOf SampleRate.Unknown set)
+  unfolding headerAfterCodes fieldBits sizeBits codesOf rateBits sampleRate bitsOf
   spells-after-codes =
       spells-as (sym (append-assoc (bitsOfBytes (numberBytes (set .number))) (sizeBits (set .size)) (bitsOf 8 (crc8 (fieldBits set)))))
       (spells-bind _ (spells-time (set .blocking) (set .number) (ok .blocking) (ok .number))
@@ -163,6 +165,7 @@ module _ (set : FrameSetting) {count : ℕ} (ok : Allowed set count) where
       (spells-then _ (spells-bits 0 {v = 0} (omega arith))
       (spells-last _ spells-sum spells-done))))
 
-  pub spells-header : Spells [] header (headerBits set) (headerOf set)
+  -- as it is read: the writer leaves the rate to the stream
+  pub spells-header : Spells [] header (headerBits set) (headerOf SampleRate.Unknown set)
   unfolding header headerBits fieldBits
   spells-header = spells-as (simp append-assoc) (spells-bind _ spells-codes spells-after-codes)

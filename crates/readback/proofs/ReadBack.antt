@@ -1,9 +1,10 @@
 -- READ-BACK: what the definition writes it reads back, whatever follows, in any buffer with room and under any settings
--- that the frame is readable under. Under fixed blocking, a size given below the frame's is refused. Assumes nothing.
+-- that the frame is readable under. A record with other bits is refused, and under fixed blocking a size given below the
+-- frame's. Assumes nothing.
 use Prim.Native.Nat.{ℕ, _+_, _≤_, _<_}
 use native.Mathlib.Omega.{arith}
-use mathlib.Core.Path.{_≡_, ap, sym, _∙_}
-use mathlib.Core.Bool.{true}
+use mathlib.Core.Path.{_≡_, refl, ap, sym, _∙_}
+use mathlib.Core.Bool.{Bool, true, false}
 use mathlib.Core.List.{List, [], _++_, append-assoc, append-nil}
 use lib.IntN.{ℤ}
 use lib.ListN.{length, drop}
@@ -15,32 +16,36 @@ use Rattle.reading.proofs.ByteRuns.{place-is, start-in, runAt-in}
 use Rattle.reading.proofs.BytePrefixes.{bitsOfBytes-append}
 use Rattle.rfc9639.specs.declared.FirstSample.{FirstSample}
 use Rattle.rfc9639.specs.declared.FrameSetting.{FrameSetting}
+use Rattle.rfc9639.specs.declared.SampleRate.{SampleRate}
 use Rattle.rfc9639.specs.declared.Settings.{Settings}
 use Rattle.rfc9639.specs.declared.StreamBlock.{StreamBlock}
 use Rattle.rfc9639.specs.HeaderCodes.{assignment, channelCount}
 use Rattle.rfc9639.specs.Header.{header}
-use Rattle.rfc9639.specs.Stream.{possible}
+use Rattle.rfc9639.specs.Stream.{possible, bitsFit}
 use Rattle.rfc9639.specs.Frame.{ReaderSettings, Frame, frame}
 use Rattle.rfc9639.specs.Read.{Report, refusal, accepted, Result, untouched, result, read}
 use Rattle.rfc9639.specs.Write.{headerBits, subframesBits, paddedToByte, footed, frameBits, frameBytes, allowed, allFit}
 use Rattle.rfc9639.proofs.FrameBits.{length-frameBits, bits-of-frame}
 use Rattle.rfc9639.proofs.AllowedSettings.{allowed-facts}
 use Rattle.demands.proofs.Results.{frame-result}
-use Rattle.demands.proofs.ResultCases.{larger-block}
+use Rattle.demands.proofs.StreamRecords.{bits-read}
+use Rattle.demands.proofs.ResultCases.{other-bits, larger-block}
 use Rattle.readback.specs.FirstSample.{firstOf}
+use Rattle.readback.specs.StreamRate.{rateOf}
 use Rattle.readback.specs.Readable.{readable}
 use Rattle.readback.proofs.SpelledValues.{Spells}
 use Rattle.readback.proofs.SamplesAndResiduals.{all-fit-facts}
 use Rattle.readback.proofs.Header.{headerOf, spells-header}
-use Rattle.readback.proofs.StreamBlock.{first-is, smaller-unfit}
+use Rattle.readback.proofs.StreamBlock.{first-is, completed-is, smaller-unfit}
 use Rattle.readback.proofs.Frame.{spells-frame}
 
 -- the report on a written frame
-abbrev pub writtenReport : FrameSetting → ℕ → FirstSample → Report
-writtenReport set consumed first = record {
+abbrev pub writtenReport : FrameSetting → ℕ → FirstSample → SampleRate → Report
+writtenReport set consumed first rate = record {
   number = 0;
   consumed = consumed;
   first = first;
+  rate = rate;
   channels = channelCount (assignment (set .channels));
   bits = set .bits;
   size = set .size;
@@ -57,21 +62,21 @@ module _ (set : FrameSetting) (xs : List ℤ) (rest : List ℕ) where
       (bitsOfBytes-append (frameBytes set xs) rest ∙ ap (λ t. t ++ bitsOfBytes rest) (bits-of-frame set xs ∙ starts) ∙ append-assoc bs more (bitsOfBytes rest))
       ∙ ap toAt (s .reads (more ++ bitsOfBytes rest))
 
-  abbrev writtenFrame : Frame
-  writtenFrame = record { header = headerOf set; samples = xs }
+  abbrev writtenFrame : SampleRate → Frame
+  writtenFrame rate = record { header = headerOf rate set; samples = xs }
 
   abbrev end : Place
   end = record { byte = length (frameBytes set xs); bit = 0 }
 
-  run-frame : (reader : ReaderSettings) → Spells [] (frame reader) (frameBits set xs) writtenFrame
-      → runAt (frame reader) (frameBytes set xs ++ rest) (placeOf 0) ≡ gotAt writtenFrame end
-  run-frame reader s =
+  run-frame : (reader : ReaderSettings) {rate : SampleRate} → Spells [] (frame reader) (frameBits set xs) (writtenFrame rate)
+      → runAt (frame reader) (frameBytes set xs ++ rest) (placeOf 0) ≡ gotAt (writtenFrame rate) end
+  run-frame reader {rate} s =
       run-written (frame reader) (frameBits set xs) [] (sym (append-nil (frameBits set xs))) s
-      ∙ ap (gotAt writtenFrame) (sym (place-is (length (frameBytes set xs)) 0 (0 + length (frameBits set xs)) (omega arith) (omega (arith, length-frameBits set xs))))
+      ∙ ap (gotAt (writtenFrame rate)) (sym (place-is (length (frameBytes set xs)) 0 (0 + length (frameBits set xs)) (omega arith) (omega (arith, length-frameBits set xs))))
 
   -- the frame's bits start with those of its header
-  run-header : Spells [] header (headerBits set) (headerOf set)
-      → runAt header (frameBytes set xs ++ rest) (placeOf 0) ≡ gotAt (headerOf set) (placeOf (0 + length (headerBits set)))
+  run-header : Spells [] header (headerBits set) (headerOf SampleRate.Unknown set)
+      → runAt header (frameBytes set xs ++ rest) (placeOf 0) ≡ gotAt (headerOf SampleRate.Unknown set) (placeOf (0 + length (headerBits set)))
   unfolding frameBits footed paddedToByte
   run-header s = run-written header (headerBits set) _ (append-assoc (headerBits set ++ subframesBits set xs) _ _ ∙ append-assoc (headerBits set) _ _) s
 
@@ -90,6 +95,7 @@ module _ (given : Settings) (set : FrameSetting) (xs : List ℤ) where
           number = 0;
           consumed = length (frameBytes set xs);
           first = firstOf (given .block) set;
+          rate = rateOf (given .stream);
           channels = channelCount (assignment (set .channels));
           bits = set .bits;
           size = set .size;
@@ -102,16 +108,34 @@ module _ (given : Settings) (set : FrameSetting) (xs : List ℤ) where
       let s = frameBytes set xs ++ rest in
       let spells = spells-frame set xs (allowed-facts set (length xs) ok) (all-fit-facts (set .bits) xs fit) given can (length buffer) room in
       read-by given s buffer (frame-result reader s (run-frame set xs rest reader spells))
-      ∙ ap (λ n. record { report = writtenReport set (length (frameBytes set xs)) n; buffer = xs ++ drop (length xs) buffer }) (first-is (given .block) set)
+      ∙ ap (λ n. record { report = writtenReport set (length (frameBytes set xs)) n (rateOf (given .stream)); buffer = xs ++ drop (length xs) buffer }) (first-is (given .block) set)
 
-  -- whatever the samples are, and however much room there is
+  -- What is refused, whatever the samples are, and however much room there is: a frame whose bits are not the stream's ..
+  pub other-refused : possible given ≡ true → bitsFit (given .stream) (set .bits) ≡ false → allowed set (length xs) ≡ true → (rest : List ℕ) (buffer : List ℤ)
+      → read given (frameBytes set xs ++ rest) buffer ≡ record { report = refusal 9; buffer = buffer }
+  unfolding untouched
+  other-refused can other ok rest buffer =
+      let reader : ReaderSettings = record { given = given; room = length buffer } in
+      let s = frameBytes set xs ++ rest in
+      let facts = allowed-facts set (length xs) ok in
+      let some : 0 < set .bits = omega (arith, facts .depth .some) in
+      read-by given s buffer
+      (other-bits reader s can (run-header set xs rest (spells-header set facts)) (sym (completed-is (given .stream) set some)) (bits-read some (facts .depth .most)) other)
+
+  -- .. and with fixed blocking a frame whose block is larger than the stream's
   pub smaller-refused : possible given ≡ true → set .blocking ≡ 0 → {size : ℕ} → given .block ≡ StreamBlock.Known size → size < set .size
       → allowed set (length xs) ≡ true → (rest : List ℕ) (buffer : List ℤ)
       → read given (frameBytes set xs ++ rest) buffer ≡ record { report = refusal 9; buffer = buffer }
   unfolding untouched
-  smaller-refused can fixed known less ok rest buffer =
-      let reader : ReaderSettings = record { given = given; room = length buffer } in
-      let s = frameBytes set xs ++ rest in
-      let facts = allowed-facts set (length xs) ok in
-      read-by given s buffer
-      (larger-block reader s can (run-header set xs rest (spells-header set facts)) (omega (arith, facts .depth .some)) (smaller-unfit given set fixed known less))
+  smaller-refused can fixed known less ok rest buffer = go (bitsFit (given .stream) (set .bits)) refl
+    where
+      go : (b : Bool) → bitsFit (given .stream) (set .bits) ≡ b → read given (frameBytes set xs ++ rest) buffer ≡ record { report = refusal 9; buffer = buffer }
+      go true equal =
+          let reader : ReaderSettings = record { given = given; room = length buffer } in
+          let s = frameBytes set xs ++ rest in
+          let facts = allowed-facts set (length xs) ok in
+          let some : 0 < set .bits = omega (arith, facts .depth .some) in
+          read-by given s buffer
+          (larger-block reader s can (run-header set xs rest (spells-header set facts)) (sym (completed-is (given .stream) set some)) (bits-read some (facts .depth .most)) equal
+          (smaller-unfit given set fixed known less))
+      go false other = other-refused can other ok rest buffer

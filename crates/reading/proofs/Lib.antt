@@ -5,6 +5,8 @@ pub mod BitPrefixes
 pub mod Bits
 pub mod Words
 pub mod ByteRuns
+pub mod ReaderSteps
+pub mod BitsTaken
 pub mod BytePrefixes
 pub mod Postconditions
 pub mod Outcome

@@ -16,3 +16,5 @@ pub mod FewestBits
 pub mod Costs
 pub mod LengthBound
 pub mod FrameBits
+pub mod StreamHeaderBits
+pub mod StreamHeaderValues
