@@ -72,7 +72,7 @@ run rt ci
 # them runs on one processor while the stored cases run on another.
 sh oracle/run.sh --seconds 90 >"$work/oracle" 2>&1 &
 oracle=$!
-for program in runner read_probe write_probe; do
+for program in runner read_probe stream_probe write_probe; do
     run sh cases/run.sh "$program"
 done
 # Cards of realistic sizes, for the main command.
@@ -81,6 +81,7 @@ run sh cases/frames.sh
 run sh cases/run.sh runner oracle
 wait "$oracle"
 count_compared $? oracle/run.sh "$work/oracle"
+compare oracle/streams.sh
 compare oracle/written.sh
 compare oracle/escaped.sh
 compare bindings/rust/test.sh

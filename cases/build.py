@@ -47,6 +47,24 @@ def header(size=1, code=None, rate=0, channels=0, bits=16, variable=0, number=0,
     return h + bytes([crc(h, 8, 0x07) ^ wrong])
 
 
+def stream_info(blocks=(16, 16), frames=(0, 0), rate=44100, channels=1, bits=16, samples=0, md5=bytes(16)):
+    """The 34 bytes of a STREAMINFO."""
+    s = Bits().put(blocks[0], 16).put(blocks[1], 16).put(frames[0], 24).put(frames[1], 24)
+    return s.put(rate, 20).put(channels - 1, 3).put(bits - 1, 5).put(samples, 36).bytes() + md5
+
+
+def metadata(kind, contents, last=0, length=None):
+    """A metadata block, with its own length or another one."""
+    size = len(contents) if length is None else length
+    return Bits().put(last, 1).put(kind, 7).put(size, 24).bytes() + contents
+
+
+def stream_header(*later, **k):
+    """A stream header: STREAMINFO with these fields, and later blocks (kind, contents), the last of which says so."""
+    blocks = [(0, stream_info(**k)), *later]
+    return b"fLaC" + b"".join(metadata(kind, contents, int(i == len(blocks) - 1)) for i, (kind, contents) in enumerate(blocks))
+
+
 def start(kind, wasted=0):
     s = Bits().put(0, 1).put(kind, 6).put(1 if wasted else 0, 1)
     return s.unary(wasted - 1) if wasted else s

@@ -1,5 +1,5 @@
-"""Writes the stored cases: card.bin, and the lists runner.txt, read_probe.txt and write_probe.txt, where each line is a
-case's name, its input and its output in hex.
+"""Writes the stored cases: card.bin, and the lists runner.txt, read_probe.txt, stream_probe.txt and write_probe.txt,
+where each line is a case's name, its input and its output in hex.
 
     python3 cases/make.py
 
@@ -16,7 +16,7 @@ import re
 import build
 import model
 import writer
-from build import Bits, constant, fixed, frame, header, lpc, start, verbatim
+from build import Bits, constant, fixed, frame, header, lpc, metadata, start, stream_header, stream_info, verbatim
 
 WHOLE = bytes.fromhex("fff869180000bf0358fd03128baa9a")
 RFC3 = bytes.fromhex("fff868020017e944004f6f313d1047d227cb6d090831452bdc2822228057a3")
@@ -181,16 +181,18 @@ def escaped():
     yield "escaped-none-cut", none + model.crc(none, 16, 0x8005).to_bytes(2, "big")
 
 
-def differences():
-    """The inputs of docs/DIFFERENCES.md, on which claxon, the RFC and this reader differ. The words after an input may
-    give the stream's block size, for `read_probe`; without them the block is None, and the input is for `runner`."""
-    form = re.compile("`([0-9A-F]+)`(?:, the stream's block ([0-9]+) \\(`read_probe`\\))?")
+def differences(program):
+    """The inputs of docs/DIFFERENCES.md, on which claxon, the RFC and this reader differ: those for this program, with the
+    stream's block size and its bits, as far as the words after an input give them. Without such words it is for
+    `runner`."""
+    form = re.compile("`([0-9A-F]+)`(?:, the stream's block ([0-9]+))?(?:, the stream's bits ([0-9]+))?(?: \\(`([a-z_]+)`\\))?")
     for line in open("../docs/DIFFERENCES.md"):
         cells = [cell.strip() for cell in line.split("|")]
-        if len(cells) > 3 and cells[2].startswith("`FF"):
-            text, block = form.fullmatch(cells[2]).groups()
+        if len(cells) > 3 and re.match("`[0-9A-F]+`", cells[2]):
+            text, block, bits, named = form.fullmatch(cells[2]).groups()
             name = "difference-" + cells[1].replace(" ", "-").replace(",", "").replace("'", "")
-            yield name, bytes.fromhex(text), None if block is None else int(block)
+            if (named or "runner") == program:
+                yield name, bytes.fromhex(text), block and int(block), bits and (1, int(bits), 44100)
 
 
 def sound(frames):
@@ -209,7 +211,7 @@ def published():
     assert hashlib.md5(sound(D2)).hexdigest() == "d5b0564975e98b8d8b930422757b8103"
     assert hashlib.md5(sound([RFC3])).hexdigest() == "f8f9e396f5cbcfc6dc807f9977906b32"
     # The blocks of the stream in D.2 have 16 samples, and the second and last one has three.
-    assert model.read(D2[1], [0] * 6, 16)[0][2:] == (16, 2, 16, 3)
+    assert model.read(D2[1], [0] * 6, 16)[0][2:6] == (16, 2, 16, 3)
     yield "rfc9639-d1", WHOLE
     yield "rfc9639-d2", D2[0] + D2[1]
     yield "rfc9639-d2-first", D2[0]
@@ -305,7 +307,7 @@ def runner_cases():
     yield from accepted(rng)
     yield from claxon_sides()
     yield from escaped()
-    yield from ((name, data) for name, data, block in differences() if block is None)
+    yield from ((name, data) for name, data, *_ in differences("runner"))
     yield from cuts("whole", WHOLE)
     yield from cuts("flac", FLAC)
     yield from written()
@@ -317,7 +319,8 @@ def runner_cases():
 
 def probe(room, fill, block=None, given=None, stream=(0, 0, 0), strict=0, wide=(0, 0)):
     """The head of `read_probe`'s input. A block of None is not given. `given` sets the flag whatever the block is. The
-    stream's record, the strict setting and the second buffer belong to requests to come."""
+    stream's record is a flag, the bits and the rate. The strict setting and the second buffer belong to requests to
+    come."""
     flag = int(block is not None) if given is None else given
     fields = [(room, 4), (fill, 4), (flag, 1), (block or 0, 4), (stream[0], 1), (stream[1], 1), (stream[2], 4), (strict, 1), (wide[0], 4), (wide[1], 8)]
     return b"".join(model.little(v, n) for v, n in fields)
@@ -355,9 +358,8 @@ def probe_blocks():
         yield f"block-{size or 'unknown'}-number-{number}", probe(2, 0, size) + plain(1, number, variable)
     for size in (65534, 65535):
         yield f"block-{size}-largest", probe(3, 7, size) + plain(65535, 1)
-    for name, data, size in differences():
-        if size is not None:
-            yield name, probe(33, 7, size) + data
+    for name, data, size, stream in differences("read_probe"):
+        yield name, probe(33, 7, size, stream=stream or (0, 0, 0)) + data
 
 
 def probe_block_order():
@@ -387,6 +389,77 @@ def probe_block_order():
     yield "same-eight-channels", probe(40, 7, 4) + frame(header(size=4, channels=7), [constant(c, 16) for c in range(8)])
 
 
+def of_bits(bits, own, number=0, channels=0, rate=0, wrong=0, **k):
+    """A frame of four samples of so many bits. Its header has these bits of its own (`own`), or leaves them to the stream
+    (0); bits without a code can only be left to it."""
+    top = 1 << bits - 1
+    widths = [bits] * (channels + 1) if channels < 8 else [bits + (channels == 9), bits + (channels != 9)]
+    xs = [-top, top - 1, 0, -1]
+    head = header(size=4, bits=own, number=number, channels=channels, rate=rate, **k)
+    return frame(head, [verbatim(xs, w) if w == bits else constant(1, w) for w in widths], wrong=wrong)
+
+
+def probe_records():
+    """The stream's record: bits that the header leaves to it, own bits that are its own or others, records that no
+    stream has, and that the rate counts for nothing."""
+    given = lambda bits, rate=44100, room=9, block=4: probe(room, -77, block, stream=(1, bits, rate))
+    for bits in range(0, 35):
+        data = of_bits(min(max(bits, 1), 24), 0)
+        yield f"record-{bits}-left", given(bits) + data
+        yield f"record-{bits}-empty", given(bits)
+    for bits in (64, 128, 255):
+        yield f"record-{bits}-own", given(bits) + of_bits(16, 16)
+        yield f"record-{bits}-empty", given(bits)
+    for own in (8, 12, 16, 20, 24):
+        for bits in (0, 3, 4, 8, 12, 16, 20, 24, 25, 32, 33):
+            yield f"record-{bits}-own-{own}", given(bits) + of_bits(own, own)
+        yield f"record-none-own-{own}", probe(9, -77, 4) + of_bits(own, own)
+    for bits in (4, 7, 13, 24):
+        for channels in range(1, 11):
+            yield f"record-{bits}-channels-{channels}", given(bits, room=4 * 8) + of_bits(bits, 0, channels=channels)
+        xs = [3, -4, 1, 2, -1, 0, 0, 3]
+        yield f"record-{bits}-fixed", given(bits, block=8) + frame(header(size=8, bits=0), [fixed(xs, bits, 2)])
+        yield f"record-{bits}-lpc", given(bits, block=8) + frame(header(size=8, bits=0), [lpc(xs, bits, [2, -1], 1, 5)])
+        yield f"record-{bits}-wasted", given(bits, block=8) + frame(header(size=8, bits=0), [verbatim([0, 1, -1] * 2 + [0, 0], bits, bits - 2)])
+        yield f"record-{bits}-all-wasted", given(bits, block=8) + frame(header(size=8, bits=0), [start(1, bits)])
+    # The rate sways nothing: not the stream's, nor the frame's own.
+    for rate in (0, 1, 44100, (1 << 20) - 1, (1 << 32) - 1):
+        yield f"record-rate-{rate}", given(16, rate) + of_bits(16, 0)
+    for rate in range(15):
+        yield f"record-rate-code-{rate}", given(16, 8000) + of_bits(16, 16, rate=rate)
+    # Not given: the record is passed over.
+    for bits in (0, 8, 33):
+        yield f"record-not-given-{bits}", probe(9, -77, 4, stream=(0, bits, 1)) + of_bits(16, 16)
+        yield f"record-not-given-{bits}-left", probe(9, -77, 4, stream=(0, bits, 1)) + of_bits(16, 0)
+
+
+def probe_record_order():
+    """Which check comes first where several would refuse: settings that no stream has; the header with its CRC-8; bits
+    code 0 (8); own bits (9); the larger block (9); the room (7); and what comes after."""
+    given = lambda bits, room, block: probe(room, 7, block, stream=(1, bits, 1))
+    both = {"block-0-record-3": (3, 6, 0), "block-4-record-33": (33, 6, 4), "block-65536-record-16": (16, 6, 65536)}
+    for name, settings in both.items():
+        for what, data in [("empty", b""), ("not-sync", b"\x00\x00"), ("header-sum", header(size=4, wrong=1)), ("frame", of_bits(16, 16))]:
+            yield f"{name}-{what}", given(*settings) + data
+    for name, bits in [("other", 24), ("same", 16), ("over-24", 25)]:
+        for own in (16, 0):
+            for room in (0, 3, 4):
+                for block in (3, 4):
+                    yield f"{name}-own-{own}-room-{room}-block-{block}", given(bits, room, block) + of_bits(16, own)
+    other = lambda data: given(24, 6, 4) + data
+    yield "other-header-sum", other(header(size=4, wrong=1))
+    yield "other-bits-code-3", other(header(size=4, depth=3))
+    yield "other-bits-code-7", other(header(size=4, depth=7))
+    yield "other-header-cut", other(header(size=4)[:-1])
+    yield "other-header-alone", other(header(size=4))
+    yield "other-subframe-zero-bit", other(header(size=4) + b"\x80")
+    yield "other-frame-sum", other(of_bits(16, 16, wrong=1))
+    yield "same-record-frame-sum", given(16, 6, 4) + of_bits(16, 16, wrong=1)
+    yield "same-record-cut", given(16, 6, 4) + of_bits(16, 0)[:-1]
+    yield "left-header-alone", given(16, 6, 4) + header(size=4, bits=0)
+    yield "record-32-code-7", given(32, 6, 4) + header(size=4, depth=7)
+
+
 def probe_layout():
     """What the program itself refuses, by 11 alone; what it passes over; a head that is cut; and its longest input."""
     yield "no-input", b""
@@ -402,9 +475,11 @@ def probe_layout():
     yield "wide-room-refused", probe(3, 7, 1, wide=(3, 1 << 62)) + WHOLE[:-1]
     yield "wide-room-block-0", probe(3, 7, 0, wide=(2, 1)) + WHOLE
     yield "wide-room-without-room", probe(0, 7, 1, wide=(2, 1)) + WHOLE
-    yield "later-fields-odd", probe(3, 7, 1, stream=(7, 255, (1 << 32) - 1), strict=9, wide=(1, -1)) + WHOLE
-    yield "later-fields-set", probe(3, 7, 1, stream=(1, 8, 44100), strict=1) + WHOLE
-    yield "later-fields-wrong-bits", probe(3, 7, 1, stream=(1, 33, 0), strict=0) + WHOLE
+    for flag in (2, 3, 128, 255):
+        yield f"stream-given-{flag}", probe(3, 1, 1, stream=(flag, 16, 44100)) + WHOLE
+    yield "stream-given-2-empty", probe(0, 0, stream=(2, 0, 0))
+    yield "later-fields-odd", probe(3, 7, 1, strict=9, wide=(1, -1)) + WHOLE
+    yield "later-fields-set", probe(3, 7, 1, stream=(1, 16, 44100), strict=1) + WHOLE
     whole = probe(3, -0x7E7D7C7C, 0x0201, stream=(1, 16, 44100), strict=1, wide=(2, 0x1112131415161718))
     for n in range(len(whole) + 1):
         yield f"head-{n}", whole[:n]
@@ -419,7 +494,107 @@ def probe_cases():
     yield from probe_buffers()
     yield from probe_blocks()
     yield from probe_block_order()
+    yield from probe_records()
+    yield from probe_record_order()
     yield from probe_layout()
+
+
+def rfc_streams():
+    """The stream headers of RFC 9639's appendix D, each with its first frame after it."""
+    d1 = "664c6143 80000022 10001000 00000f00 000f0ac4 42f00000 0001 3e84b41807dc690307586a3dad1a2e0f"
+    d2 = "664c6143 00000022 00100010 00001700 00440ac4 42f00000 0013 d5b0564975e98b8d8b930422757b8103"
+    d2 += "03000012 0000000000000000 0000000000000000 0010"
+    d2 += "0400003a 20000000 7265666572656e6365206c6962464c4143 20312e332e33203230313930383034 01000000 0e000000 5449544c453dd7a9d79cd795d79d"
+    d2 += "81000006 000000000000"
+    d3 = "664c6143 80000022 10001000 00001f00 001f07d0 00700000 0018 f8f9e396f5cbcfc6dc807f9977906b32"
+    for name, text, data in [("d1", d1, WHOLE), ("d2", d2, D2[0]), ("d3", d3, RFC3)]:
+        head = bytes.fromhex(text.replace(" ", ""))
+        number, consumed, info = model.stream_header(head + data)
+        assert (number, consumed) == (0, len(head)) and info.md5.hex() in text
+        # The frame after the header has the stream's bits.
+        assert model.read(data, [0] * 64, None, (info.bits, info.rate))[0][:2] == (0, len(data))
+        yield f"rfc9639-{name}", head + data
+
+
+def stream_fields():
+    """Each field at its ends, by itself; and those that claxon refuses and this reader does not."""
+    ends = {
+        "blocks": [(0, 0), (15, 15), (16, 16), (65535, 65535), (4096, 256), (1, 65535)],
+        "frames": [(0, 0), (1, (1 << 24) - 1), ((1 << 24) - 1, 1), ((1 << 24) - 1, (1 << 24) - 1)],
+        "rate": [0, 1, 44100, 655350, 655351, (1 << 20) - 1],
+        "channels": range(1, 9),
+        "bits": range(1, 33),
+        "samples": [0, 1, (1 << 32) - 1, 1 << 32, (1 << 36) - 1],
+        "md5": [bytes(16), bytes(range(1, 17)), b"\xff" * 16],
+    }
+    for field, values in ends.items():
+        for i, value in enumerate(values):
+            name = value if isinstance(value, int) else i
+            yield f"stream-{field}-{name}", stream_header(**{field: value}) + WHOLE
+
+
+def stream_blocks():
+    """The metadata blocks: their types, lengths and last flags, each refusal at the byte that decides it, and inputs that
+    end within or after a block."""
+    mark = b"fLaC"
+    info = stream_info(blocks=(4096, 4096), rate=96000, channels=2, bits=24, samples=12345)
+    first, alone = metadata(0, info), metadata(0, info, 1)
+    yield "stream-empty", b""
+    yield "stream-no-mark", WHOLE
+    for n in range(1, 4):
+        yield f"stream-wrong-mark-cut-{n}", b"XXXX"[:n]
+    for i in range(4):
+        wrong = bytearray(mark)
+        wrong[i] ^= 0x20
+        yield f"stream-wrong-mark-{i}", bytes(wrong) + alone
+        yield f"stream-wrong-mark-{i}-alone", bytes(wrong)
+    for kind in (0, 1, 2, 3, 4, 5, 6, 7, 63, 64, 126, 127):
+        for last in (0, 1):
+            yield f"stream-first-{kind}-{last}", mark + metadata(kind, info, last)
+            yield f"stream-first-{kind}-{last}-type-alone", mark + metadata(kind, info, last)[:1]
+            yield f"stream-later-{kind}-{last}", mark + first + metadata(kind, b"abc", last) + metadata(1, b"", 1)
+            yield f"stream-later-{kind}-{last}-type-alone", mark + first + metadata(kind, b"", last)[:1]
+    for length in (0, 1, 33, 34, 35, 256 + 34, 65536 + 34, (1 << 24) - 1):
+        yield f"stream-first-length-{length}", mark + metadata(0, info, 1, length)
+        yield f"stream-first-length-{length}-alone", mark + metadata(0, b"", 1, length)
+        yield f"stream-second-info-{length}", mark + first + metadata(0, info[:2], 0, length) + alone
+    # Bits below 4 are refused at their five bits, of which four are in the byte after the first; before the samples.
+    three = mark + metadata(0, stream_info(bits=3), 1)
+    for n in (20, 21, 22, 23, 42):
+        yield f"stream-bits-3-cut-{n}", three[:n]
+    yield "stream-second-info-of-bits-3", mark + first + metadata(0, stream_info(bits=3), 1)
+    for length in (0, 1, 5, 255, 256, 3000):
+        for short in (0, 1):
+            if short <= length:
+                contents = bytes(i % 251 for i in range(length))
+                data = mark + first + metadata(3, contents, 0) + metadata(1, contents, 1)
+                yield f"stream-skipped-{length}-{short}", data[: len(data) - short][:65600]
+                yield f"stream-not-last-{length}-{short}", (mark + first + metadata(3, contents))[: 46 + length - short]
+    yield "stream-longest-block-cut", mark + first + metadata(6, bytes(100), 1, (1 << 24) - 1)
+    yield "stream-many-blocks", mark + first + metadata(1, b"") * 5000 + metadata(1, b"", 1) + WHOLE
+    yield "stream-many-blocks-no-last", mark + first + metadata(1, b"") * 5000
+    yield "stream-many-blocks-127", mark + first + metadata(1, b"") * 5000 + b"\x7f"
+    # The longest input: a header of 65,536 bytes, and one byte more, which is left unread.
+    for over in (0, 1):
+        yield f"stream-bytes-{65536 + over}", mark + first + metadata(1, bytes(65536 - 46 - 4 + over), 1)
+
+
+def stream_cuts():
+    """A header with every kind of block that `flac` writes, cut at each byte."""
+    tags = b"\x05\x00\x00\x00claxo" + bytes(4)
+    data = stream_header((3, bytes(18)), (4, tags), (1, bytes(9)), (5, b"cue"), (6, b"picture"), (2, b"app!data"), rate=192000, bits=20, channels=8, samples=1 << 33)
+    assert model.stream_header(data)[:2] == (0, len(data))
+    yield from (("stream-" + name, part) for name, part in cuts("whole", data))
+    yield "stream-whole", data
+    yield "stream-whole-and-frame", data + WHOLE
+
+
+def stream_probe_cases():
+    yield from rfc_streams()
+    yield from stream_fields()
+    yield from stream_blocks()
+    yield from stream_cuts()
+    yield from ((name, data) for name, data, *_ in differences("stream_probe"))
 
 
 def settings(code, bits, size, blocking=0, number=0):
@@ -516,6 +691,7 @@ if __name__ == "__main__":
     os.chdir(os.path.dirname(os.path.abspath(__file__)))
     write("runner.txt", runner_cases(), model.runner)
     write("read_probe.txt", probe_cases(), model.read_probe)
+    write("stream_probe.txt", stream_probe_cases(), model.stream_probe)
     write("write_probe.txt", write_probe_cases(), writer.write_probe)
     with open("card.bin", "wb") as out:
         out.write(card())

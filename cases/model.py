@@ -65,6 +65,10 @@ def number(s):
     return v
 
 
+# Rate code 0: the header leaves the rate to the stream.
+RATES = [None, 88200, 176400, 192000, 8000, 16000, 22050, 24000, 32000, 44100, 48000, 96000]
+
+
 def header(s):
     sync = s.bits(16)
     require(sync // 2 == 0x7FFC, 3)
@@ -91,11 +95,12 @@ def header(s):
         require(block <= 65535, 4)
     else:
         block = 1 << size
-    s.bits({12: 8, 13: 16, 14: 16}.get(rate, 0))
+    stored = s.bits({12: 8, 13: 16, 14: 16}.get(rate, 0))
     before = s.data[: s.at // 8]
     require(s.bits(8) == crc(before, 8, 0x07), 6)
     bits = [0, 8, 12, 0, 16, 20, 24][depth]
-    return channels, bits, block, sync % 2 == 1, n
+    hertz = RATES[rate] if rate < 12 else stored * {12: 1000, 13: 1, 14: 10}[rate]
+    return channels, bits, block, sync % 2 == 1, n, hertz
 
 
 def stream_block(data):
@@ -187,18 +192,23 @@ def first_sample(variable, n, block):
     return None if block is None else block * n
 
 
-def read(data, buffer, block=None):
-    """(number, consumed, first, channels, bits, block size), and the buffer afterwards. `block` is the size of the
-    stream's blocks; None means that it is unknown. The first sample's number is None where it is unknown, and after a
-    refusal."""
+def read(data, buffer, block=None, stream=None):
+    """(number, consumed, first, channels, bits, block size, rate), and the buffer afterwards. `block` is the size of the
+    stream's blocks and `stream` its record, the bits and the rate; None means that it is unknown. The first sample's
+    number and the rate are None where they are unknown, and after a refusal."""
     s, zeroed = Input(data), 0
     try:
         require(block is None or 1 <= block <= 65535, 11)
-        # Only then, so that a bad size is refused on empty input too.
+        require(stream is None or 4 <= stream[0] <= 32, 11)
+        # Only then, so that bad settings are refused on empty input too.
         require(len(data) > 0, 1)
-        code, bits, size, variable, n = header(s)
+        code, bits, size, variable, n, rate = header(s)
         channels = code + 1 if code < 8 else 2
-        require(bits != 0, 8)
+        if stream is not None:
+            bits = bits or stream[0]
+            rate = stream[1] if rate is None else rate
+        require(1 <= bits <= 24, 8)
+        require(stream is None or bits == stream[0], 9)
         require(variable or block is None or size <= block, 9)
         require(channels * size <= len(buffer), 7)
         at = s.at
@@ -210,9 +220,47 @@ def read(data, buffer, block=None):
         before = data[: s.at // 8]
         require(s.bits(16) == crc(before, 16, 0x8005), 10)
         samples = join(code, size, xs)
-        return (0, s.at // 8, first_sample(variable, n, block), channels, bits, size), samples + buffer[zeroed:]
+        return (0, s.at // 8, first_sample(variable, n, block), channels, bits, size, rate), samples + buffer[zeroed:]
     except Stop as stop:
-        return (stop.number, 0, None, 0, 0, 0), [0] * zeroed + buffer[zeroed:]
+        return (stop.number, 0, None, 0, 0, 0, None), [0] * zeroed + buffer[zeroed:]
+
+
+class Info:
+    """What a stream header says."""
+
+    def __init__(self, s):
+        self.blocks = s.bits(16), s.bits(16)
+        self.frames = s.bits(24), s.bits(24)
+        self.rate, self.channels = s.bits(20), s.bits(3) + 1
+        self.bits = s.bits(5) + 1
+        require(self.bits >= 4, 9)
+        self.samples, self.md5 = s.bits(36), bytes(s.bits(8) for _ in range(16))
+
+
+def skip(s, n):
+    require(s.at + 8 * n <= 8 * len(s.data), 2)
+    s.at += 8 * n
+
+
+def stream_header(data):
+    """(number, consumed, what the header says), and (number, 0, None) for a refusal."""
+    s, info = Input(data), None
+    try:
+        require(s.bits(32) == int.from_bytes(b"fLaC", "big"), 3)
+        last = 0
+        while not last:
+            last, kind = s.bits(1), s.bits(7)
+            require(kind != 127, 4)
+            require(info is not None or kind == 0, 9)
+            length = s.bits(24)
+            require(info is not None or length == 34, 9)
+            if info is None:
+                info = Info(s)
+            else:
+                skip(s, length)
+        return 0, s.at // 8, info
+    except Stop as stop:
+        return stop.number, 0, None
 
 
 def little(v, n):
@@ -258,15 +306,25 @@ def read_probe(data):
     head = Head(data)
     room, fill = head.number(4), signed(32, head.number(4))
     given, block = head.number(1), head.number(4)
-    # The stream's record and the strict setting, which are passed over.
-    head.number(1 + 1 + 4 + 1)
+    stream_given, bits, rate = head.number(1), head.number(1), head.number(4)
+    # The strict setting, which is passed over.
+    head.number(1)
     wide_room = head.number(4)
     # What the second buffer holds, passed over too.
     head.number(8)
-    if room > PROBE_LIMIT or given > 1 or wide_room > PROBE_LIMIT:
+    if room > PROBE_LIMIT or given > 1 or stream_given > 1 or wide_room > PROBE_LIMIT:
         return b"\x0b"
-    r, buffer = read(data[head.at :][:PROBE_LIMIT], [fill] * room, block if given else None)
+    r, buffer = read(data[head.at :][:PROBE_LIMIT], [fill] * room, block if given else None, (bits, rate) if stream_given else None)
     out = little(r[0], 1) + little(r[1], 4) + little(int(r[2] is not None), 1) + little(r[2] or 0, 8) + shape(r)
     # Eight parts of eight bytes: where the bits went.
     out += bytes(8 * 8)
     return out + b"".join(little(x, 4) for x in buffer) + bytes(8 * wide_room)
+
+
+def stream_probe(data):
+    """What the program `stream_probe` writes."""
+    number, consumed, info = stream_header(data[:PROBE_LIMIT])
+    if number:
+        return little(number, 1) + bytes(4 + 4 + 8 + 4 + 2 + 8 + 16)
+    out = little(0, 1) + little(consumed, 4) + b"".join(little(v, 2) for v in info.blocks) + b"".join(little(v, 4) for v in info.frames)
+    return out + little(info.rate, 4) + little(info.channels, 1) + little(info.bits, 1) + little(info.samples, 8) + info.md5

@@ -226,6 +226,7 @@ static void test_larger(void)
 static void test_read_settings(void)
 {
     static const size_t sizes[5] = {0, 65536, 65537, SIZE_MAX / 2 + 2, SIZE_MAX};
+    static const uint32_t depths[4] = {0, 3, 33, UINT32_MAX};
     const thriftacorn_read_settings unknown = THRIFTACORN_READ_SETTINGS_INIT;
     thriftacorn_read_settings settings = unknown;
     thriftacorn_frame frame;
@@ -250,7 +251,7 @@ static void test_read_settings(void)
     settings.block = 1;
     CHECK(thriftacorn_read_frame_with(whole, 15, &settings, samples, 2, &frame) == THRIFTACORN_BAD_ARGUMENT);
     CHECK(thriftacorn_read_next_with(whole, 15, &place, &settings, samples, 2, &frame) == THRIFTACORN_BAD_ARGUMENT);
-    for (i = 0; i < 8; i++) {
+    for (i = 0; i < 7; i++) {
         settings = unknown;
         settings.reserved[i] = UINT64_C(1) << 63;
         CHECK(thriftacorn_read_frame_with(whole, 15, &settings, samples, 2, &frame) == THRIFTACORN_BAD_ARGUMENT);
@@ -258,8 +259,19 @@ static void test_read_settings(void)
               THRIFTACORN_BAD_ARGUMENT);
     }
     settings = unknown;
-    settings.reserved_word = 1;
+    settings.stream_given = 2;
+    settings.stream_bits = 16;
     CHECK(thriftacorn_read_frame_with(whole, 15, &settings, samples, 2, &frame) == THRIFTACORN_BAD_ARGUMENT);
+    settings.stream_given = 1;
+    for (i = 0; i < 4; i++) {
+        settings.stream_bits = depths[i];
+        for (length = 0; length <= sizeof whole; length++) {
+            memset(&frame, 0xFF, sizeof frame);
+            CHECK(thriftacorn_read_frame_with(whole, length, &settings, samples, 2, &frame) ==
+                  THRIFTACORN_BAD_ARGUMENT);
+            CHECK(is_nothing(&frame));
+        }
+    }
     CHECK(place == 0 && is_nothing(&frame) && samples[0] == 7 && samples[1] == 7);
     settings = unknown;
     settings.block_given = 1;
@@ -267,6 +279,74 @@ static void test_read_settings(void)
         CHECK(thriftacorn_read_frame_with(whole, 15, &settings, samples, 2, &frame) == THRIFTACORN_OK);
         CHECK(frame.first_sample_known == 1 && frame.first_sample == 0 && samples[1] == 10416);
     }
+}
+
+/* The stream of RFC 9639's first example, appendix D.1, up to its frame. */
+static const uint8_t header[42] = {
+    'f', 'L', 'a', 'C', 0x80, 0, 0, 34, 0x10, 0, 0x10, 0, 0, 0, 0x0F, 0, 0, 0x0F, 0x0A, 0xC4, 0x42,
+    0xF0, 0, 0, 0, 1, 0x3E, 0x84, 0xB4, 0x18, 0x07, 0xDC, 0x69, 0x03, 0x07, 0x58, 0x6A, 0x3D, 0xAD, 0x1A,
+    0x2E, 0x0F,
+};
+
+/* A stream header, whole and cut anywhere, and its refusals. */
+static void test_stream_header(void)
+{
+    static const thriftacorn_stream_info nothing = THRIFTACORN_STREAM_INFO_INIT;
+    thriftacorn_stream_info info;
+    uint8_t other[42];
+    size_t length;
+    for (length = 0; length < sizeof header; length++) {
+        memset(&info, 0xFF, sizeof info);
+        CHECK(thriftacorn_read_stream_header(header, length, &info) == THRIFTACORN_CUT_SHORT);
+        CHECK(memcmp(&info, &nothing, sizeof info) == 0);
+    }
+    CHECK(thriftacorn_read_stream_header(header, sizeof header, &info) == THRIFTACORN_OK);
+    CHECK(info.consumed == 42 && info.smallest_block == 4096 && info.largest_block == 4096);
+    CHECK(info.smallest_frame == 15 && info.largest_frame == 15 && info.rate == 44100 && info.channels == 2);
+    CHECK(info.bits == 16 && info.samples == 1 && memcmp(info.md5, header + 26, 16) == 0);
+    memcpy(other, header, sizeof other);
+    other[3] = 'X';
+    CHECK(thriftacorn_read_stream_header(other, sizeof other, &info) == THRIFTACORN_NOT_SYNC);
+    other[3] = 'C';
+    other[4] = 0x7F;
+    CHECK(thriftacorn_read_stream_header(other, sizeof other, &info) == THRIFTACORN_RESERVED);
+    other[4] = 0x81;
+    CHECK(thriftacorn_read_stream_header(other, 5, &info) == THRIFTACORN_BAD_SHAPE);
+    other[4] = 0x80;
+    other[7] = 35;
+    CHECK(thriftacorn_read_stream_header(other, 8, &info) == THRIFTACORN_BAD_SHAPE);
+    CHECK(memcmp(&info, &nothing, sizeof info) == 0);
+    CHECK(thriftacorn_read_stream_header(NULL, 0, &info) == THRIFTACORN_CUT_SHORT);
+    CHECK(thriftacorn_read_stream_header(NULL, 1, &info) == THRIFTACORN_BAD_ARGUMENT);
+}
+
+/* The bits and the rate of the stream: taken where the frame has none, and held against its own bits. */
+static void test_stream_record(void)
+{
+    /* One sample of 13 bits, -1, which the frame's header leaves to the stream, as it does the rate. */
+    static const uint8_t left[12] = {0xFF, 0xF8, 0x60, 0, 0, 0, 0xEA, 0x02, 0xFF, 0xF8, 0x14, 0x8E};
+    thriftacorn_read_settings settings = THRIFTACORN_READ_SETTINGS_INIT;
+    thriftacorn_stream_info info = THRIFTACORN_STREAM_INFO_INIT;
+    thriftacorn_frame frame;
+    int32_t samples[2] = {7, 7};
+    size_t place = 0;
+    CHECK(thriftacorn_read_frame_with(left, 12, &settings, samples, 2, &frame) == THRIFTACORN_NOT_DONE);
+    info.bits = 13;
+    info.rate = 250000;
+    thriftacorn_set_stream(&settings, &info);
+    CHECK(thriftacorn_read_frame_with(whole, 15, &settings, samples, 0, &frame) == THRIFTACORN_BAD_SHAPE);
+    CHECK(is_nothing(&frame) && samples[0] == 7);
+    CHECK(thriftacorn_read_frame_with(left, 12, &settings, samples, 2, &frame) == THRIFTACORN_OK);
+    CHECK(frame.bits == 13 && frame.rate_known == 1 && frame.rate == 250000 && samples[0] == -1 && samples[1] == 7);
+    samples[0] = 7;
+    settings.stream_bits = 25;
+    CHECK(thriftacorn_read_next_with(left, 12, &place, &settings, samples, 2, &frame) == THRIFTACORN_NOT_DONE);
+    settings.stream_bits = 13;
+    CHECK(thriftacorn_read_next_with(left, 12, &place, &settings, samples, 2, &frame) == THRIFTACORN_OK);
+    CHECK(place == 12 && frame.bits == 13 && frame.rate == 250000 && samples[0] == -1);
+    settings.stream_bits = 16;
+    CHECK(thriftacorn_read_frame_with(whole, 15, &settings, samples, 2, &frame) == THRIFTACORN_OK);
+    CHECK(frame.bits == 16 && frame.rate_known == 1 && frame.rate == 44100 && samples[0] == 25588);
 }
 
 /* What the beginning of a stream says of its blocks. */
@@ -279,7 +359,7 @@ static void test_stream_settings(void)
         memset(&settings, 0xFF, sizeof settings);
         CHECK(thriftacorn_stream_settings(stream + SHORT_FROM, length, &settings) == THRIFTACORN_OK);
         CHECK(length < 7 ? memcmp(&settings, &unknown, sizeof unknown) == 0
-                         : settings.block_given == 1 && settings.block == 3 && settings.reserved_word == 0);
+                         : settings.block_given == 1 && settings.block == 3 && settings.stream_given == 0);
     }
     memset(&settings, 0xFF, sizeof settings);
     CHECK(thriftacorn_stream_settings(NULL, 0, &settings) == THRIFTACORN_OK && settings.block_given == 0);
@@ -387,7 +467,7 @@ static void test_values(void)
 {
     size_t consumed = 99, channels = 99, size = 99, place = 1, start = 99, end = 99, length = 99;
     uint64_t first = 99;
-    uint32_t bits = 99, known = 99;
+    uint32_t bits = 99, known = 99, rated = 99, rate = 99;
     int32_t samples[2] = {7, 7}, value = 99, left = 99, right = 99;
     uint8_t out[4] = {9, 9, 9, 9};
     CHECK(thriftacorn_read_frame_v1(whole, 15, samples, 1, &consumed, &first, &channels, &bits, &size) == 7);
@@ -406,6 +486,18 @@ static void test_values(void)
     CHECK(thriftacorn_read_next_v2(whole, 15, &place, 2, 1, samples, 2, &consumed, &known, &first, &channels, &bits,
                                    &size) == 11);
     CHECK(consumed == 0 && known == 0 && first == 0 && channels == 0 && bits == 0 && size == 0 && place == 1);
+    consumed = channels = size = 99;
+    first = bits = known = rated = rate = 99;
+    CHECK(thriftacorn_read_frame_v3(whole, 15, 1, 1, 1, 12, 1, samples, 2, &consumed, &known, &first, &rated, &rate,
+                                    &channels, &bits, &size) == 9);
+    CHECK(consumed == 0 && known == 0 && first == 0 && rated == 0 && rate == 0 && channels == 0 && bits == 0);
+    CHECK(size == 0);
+    consumed = channels = size = 99;
+    first = bits = known = rated = rate = 99;
+    CHECK(thriftacorn_read_next_v3(whole, 15, &place, 0, 0, 3, 16, 1, samples, 2, &consumed, &known, &first, &rated,
+                                   &rate, &channels, &bits, &size) == 11);
+    CHECK(consumed == 0 && known == 0 && first == 0 && rated == 0 && rate == 0 && channels == 0 && bits == 0);
+    CHECK(size == 0 && place == 1);
     CHECK(thriftacorn_stream_block_v1(whole, 6, &start) == 0 && start == 0);
     CHECK(thriftacorn_stream_block_v1(whole, 7, &start) == 1 && start == 1);
     start = 99;
@@ -471,12 +563,14 @@ static void test_layout(void)
 {
     CHECK(THRIFTACORN_ROOM == 8 * 65535);
     if (sizeof(size_t) == 8) {
-        CHECK(sizeof(thriftacorn_frame) == 104 && offsetof(thriftacorn_frame, reserved) == 40);
+        CHECK(sizeof(thriftacorn_frame) == 104 && offsetof(thriftacorn_frame, reserved) == 48);
         CHECK(offsetof(thriftacorn_frame, first_sample) == 24 && offsetof(thriftacorn_frame, bits) == 36);
+        CHECK(offsetof(thriftacorn_frame, rate) == 40 && offsetof(thriftacorn_frame, rate_known) == 44);
         CHECK(sizeof(thriftacorn_write_settings) == 96 && offsetof(thriftacorn_write_settings, reserved) == 32);
         CHECK(offsetof(thriftacorn_write_settings, number) == 16);
-        CHECK(sizeof(thriftacorn_read_settings) == 80 && offsetof(thriftacorn_read_settings, reserved) == 16);
+        CHECK(sizeof(thriftacorn_read_settings) == 80 && offsetof(thriftacorn_read_settings, reserved) == 24);
         CHECK(offsetof(thriftacorn_read_settings, block) == 8);
+        CHECK(sizeof(thriftacorn_stream_info) == 128 && offsetof(thriftacorn_stream_info, md5) == 48);
     }
 }
 
@@ -489,6 +583,8 @@ int main(void)
     test_larger();
     test_read_settings();
     test_stream_settings();
+    test_stream_header();
+    test_stream_record();
     test_write();
     test_settings();
     test_block();

@@ -10,7 +10,7 @@
  * for the next sync code: the sound in a frame can be any bytes, even those of a whole frame with both its check sums
  * right.
  *
- * What will not change. A function whose name ends in _v1 or _v2 keeps its arguments and its meaning. So do this
+ * What will not change. A function whose name ends in _v1, _v2 or _v3 keeps its arguments and its meaning. So do this
  * header's functions without it: settings for reading came as a struct, with functions of their own. A new field of a
  * struct will take its space from `reserved`, so that the struct keeps its size, and zero in it will mean what is meant
  * today: designated initialisers and the macros that end in _INIT will compile as before and mean the same. An answer
@@ -25,7 +25,7 @@
 #include <stddef.h>
 #include <stdint.h>
 
-#define THRIFTACORN_VERSION "0.3.0"
+#define THRIFTACORN_VERSION "0.4.0"
 
 /* Room for every frame: eight channels of 65535 samples. */
 #define THRIFTACORN_ROOM 524280
@@ -37,8 +37,8 @@ extern "C" {
 enum thriftacorn_answer {
     THRIFTACORN_OK = 0,
     THRIFTACORN_NOTHING_LEFT = 1,   /* the input is empty */
-    THRIFTACORN_CUT_SHORT = 2,      /* the input ends before the frame does */
-    THRIFTACORN_NOT_SYNC = 3,       /* the sync bits are wrong */
+    THRIFTACORN_CUT_SHORT = 2,      /* the input ends before the frame or the stream header does */
+    THRIFTACORN_NOT_SYNC = 3,       /* the sync bits are wrong, or a stream does not start with fLaC */
     THRIFTACORN_RESERVED = 4,       /* a reserved or forbidden value, or a one in a bit that must be zero */
     THRIFTACORN_BAD_NUMBER = 5,     /* the coded number is malformed or too large */
     THRIFTACORN_HEADER_SUM = 6,     /* the header's CRC-8 differs */
@@ -66,25 +66,49 @@ typedef struct thriftacorn_frame {
     size_t block_size;           /* samples per channel, 1 to 65535 */
     uint64_t first_sample;       /* the number of the block's first sample in its channel; 0 if it is not known */
     uint32_t first_sample_known; /* 1, or 0 if that takes the size of the stream's blocks, which is unknown */
-    uint32_t bits;               /* bits per sample: 8, 12, 16, 20 or 24 */
-    uint64_t reserved[8];
+    uint32_t bits;               /* bits per sample, 4 to 24: the frame's own, or else the stream's */
+    uint32_t rate;               /* samples of a channel in one second, likewise; 0 if it is not known */
+    uint32_t rate_known;         /* 1, or 0: always 0 without settings; with them, if neither has a rate */
+    uint64_t reserved[7];
 } thriftacorn_frame;
 
-#define THRIFTACORN_FRAME_INIT {0, 0, 0, 0, 0, 0, {0, 0, 0, 0, 0, 0, 0, 0}}
+#define THRIFTACORN_FRAME_INIT {0, 0, 0, 0, 0, 0, 0, 0, {0, 0, 0, 0, 0, 0, 0}}
 
 /*
  * The settings for reading a frame: what is known of its stream. With fixed blocking a frame has only its own number,
- * which counts blocks of the stream's size; a stream's last block may be smaller. Other values than those named here
- * are refused with 11. Reserved fields are zero; anything else in them is refused with 11 too.
+ * which counts blocks of the stream's size; a stream's last block may be smaller. A frame may also leave its bits and
+ * its rate to the stream header. Other values than those named here are refused with 11. Reserved fields are zero;
+ * anything else in them is refused with 11 too.
  */
 typedef struct thriftacorn_read_settings {
-    uint32_t block_given; /* 1 if `block` is the size of the stream's blocks, 0 if that is unknown */
-    uint32_t reserved_word;
-    size_t block; /* samples per channel, 1 to 65535; passed over if it is not given */
-    uint64_t reserved[8];
+    uint32_t block_given;  /* 1 if `block` is the size of the stream's blocks, 0 if that is unknown */
+    uint32_t stream_given; /* 1 if `stream_bits` and `stream_rate` are those of the stream header, 0 if there is none */
+    size_t block;          /* samples per channel, 1 to 65535; passed over if it is not given */
+    uint32_t stream_bits;  /* bits per sample, 4 to 32; passed over if they are not given */
+    uint32_t stream_rate;  /* samples of a channel in one second; passed over if it is not given */
+    uint64_t reserved[7];
 } thriftacorn_read_settings;
 
-#define THRIFTACORN_READ_SETTINGS_INIT {0, 0, 0, {0, 0, 0, 0, 0, 0, 0, 0}}
+#define THRIFTACORN_READ_SETTINGS_INIT {0, 0, 0, 0, 0, {0, 0, 0, 0, 0, 0, 0}}
+
+/* What a stream header says: its STREAMINFO block (RFC 9639 section 8.2). All zero for a refusal. */
+typedef struct thriftacorn_stream_info {
+    size_t consumed;         /* the bytes of the header; the frames start after them */
+    uint64_t samples;        /* the samples of a channel in the whole stream, 0 if that is unknown */
+    uint32_t smallest_block; /* samples per channel, the stream's last block aside */
+    uint32_t largest_block;
+    uint32_t smallest_frame; /* bytes, 0 if that is unknown */
+    uint32_t largest_frame;
+    uint32_t rate;     /* samples of a channel in one second */
+    uint32_t channels; /* 1 to 8 */
+    uint32_t bits;     /* bits per sample, 4 to 32 */
+    uint32_t reserved_word;
+    uint8_t md5[16]; /* the MD5 of all samples, as it is stored; it is not checked */
+    uint64_t reserved[8];
+} thriftacorn_stream_info;
+
+#define THRIFTACORN_STREAM_INFO_INIT \
+    {0, 0, 0, 0, 0, 0, 0, 0, 0, 0, {0, 0, 0, 0, 0, 0, 0, 0, 0, 0, 0, 0, 0, 0, 0, 0}, {0, 0, 0, 0, 0, 0, 0, 0}}
 
 /* Channel codes: 0 to 7 mean 1 to 8 independent channels; these mean two, with their difference stored for one. */
 #define THRIFTACORN_LEFT_SIDE 8
@@ -124,6 +148,20 @@ uint8_t thriftacorn_read_next_v2(const uint8_t *bytes, size_t bytes_len, size_t 
                                  size_t block, int32_t *samples, size_t samples_len, size_t *consumed,
                                  uint32_t *first_known, uint64_t *first, size_t *channels, uint32_t *bits,
                                  size_t *size);
+uint8_t thriftacorn_read_frame_v3(const uint8_t *bytes, size_t bytes_len, uint32_t block_given, size_t block,
+                                  uint32_t stream_given, uint32_t stream_bits, uint32_t stream_rate, int32_t *samples,
+                                  size_t samples_len, size_t *consumed, uint32_t *first_known, uint64_t *first,
+                                  uint32_t *rate_known, uint32_t *rate, size_t *channels, uint32_t *bits,
+                                  size_t *size);
+uint8_t thriftacorn_read_next_v3(const uint8_t *bytes, size_t bytes_len, size_t *place, uint32_t block_given,
+                                 size_t block, uint32_t stream_given, uint32_t stream_bits, uint32_t stream_rate,
+                                 int32_t *samples, size_t samples_len, size_t *consumed, uint32_t *first_known,
+                                 uint64_t *first, uint32_t *rate_known, uint32_t *rate, size_t *channels,
+                                 uint32_t *bits, size_t *size);
+uint8_t thriftacorn_read_stream_header_v1(const uint8_t *bytes, size_t bytes_len, size_t *consumed,
+                                          uint32_t *smallest_block, uint32_t *largest_block, uint32_t *smallest_frame,
+                                          uint32_t *largest_frame, uint32_t *rate, uint32_t *channels, uint32_t *bits,
+                                          uint64_t *samples, uint64_t *md5_high, uint64_t *md5_low);
 uint32_t thriftacorn_stream_block_v1(const uint8_t *bytes, size_t bytes_len, size_t *block);
 uint8_t thriftacorn_write_frame_v1(const int32_t *samples, size_t samples_len, uint32_t channels, uint32_t bits,
                                    uint32_t blocking, uint64_t number, size_t size, uint8_t *out, size_t out_len,
@@ -254,7 +292,7 @@ static inline uint8_t thriftacorn_read_next(const uint8_t *bytes, size_t bytes_l
 /* Whether all reserved fields are zero. */
 static inline int thriftacorn_is_known_reading(const thriftacorn_read_settings *settings)
 {
-    uint64_t all = settings->reserved_word;
+    uint64_t all = 0;
     size_t i;
     for (i = 0; i < sizeof settings->reserved / sizeof settings->reserved[0]; i++) {
         all |= settings->reserved[i];
@@ -263,7 +301,7 @@ static inline int thriftacorn_is_known_reading(const thriftacorn_read_settings *
 }
 
 /*
- * What the beginning of a stream says: the size of its blocks is that of the first, whatever its blocking. It takes the
+ * What the first frame of a stream says: the size of its blocks is that of the first, whatever its blocking. It takes the
  * frame's header, not the rest of the frame. All of *settings is set; block_given is 0 if the bytes do not start with a
  * header that is whole and right. The answer is 0, or 11 for a slice that is NULL but not empty.
  */
@@ -281,11 +319,50 @@ static inline uint8_t thriftacorn_stream_settings(const uint8_t *bytes, size_t b
 }
 
 /*
+ * Reads the stream header at the start of `bytes`: fLaC and all metadata blocks. *info is all zero after a refusal: 2 if
+ * the input ends within the header, or is empty; 3 for another mark; 4 for a block of type 127; 9 if the first block is
+ * not a STREAMINFO of 34 bytes, or the samples have fewer than 4 bits. The frames start after info->consumed bytes.
+ */
+static inline uint8_t thriftacorn_read_stream_header(const uint8_t *bytes, size_t bytes_len,
+                                                     thriftacorn_stream_info *info)
+{
+    const uint8_t no_byte = 0;
+    const thriftacorn_stream_info nothing = THRIFTACORN_STREAM_INFO_INIT;
+    uint64_t high = 0;
+    uint64_t low = 0;
+    uint8_t answer;
+    int i;
+    *info = nothing;
+    if (!thriftacorn_is_slice(bytes, bytes_len)) {
+        return THRIFTACORN_BAD_ARGUMENT;
+    }
+    answer = thriftacorn_read_stream_header_v1(bytes != NULL ? bytes : &no_byte, bytes_len, &info->consumed,
+                                               &info->smallest_block, &info->largest_block, &info->smallest_frame,
+                                               &info->largest_frame, &info->rate, &info->channels, &info->bits,
+                                               &info->samples, &high, &low);
+    for (i = 0; i < 8; i++) {
+        info->md5[i] = (uint8_t)(high >> (56 - 8 * i));
+        info->md5[8 + i] = (uint8_t)(low >> (56 - 8 * i));
+    }
+    return answer;
+}
+
+/* Settings with the bits and the rate of a stream header, whatever else they say. */
+static inline void thriftacorn_set_stream(thriftacorn_read_settings *settings, const thriftacorn_stream_info *info)
+{
+    settings->stream_given = 1;
+    settings->stream_bits = info->bits;
+    settings->stream_rate = info->rate;
+}
+
+/*
  * thriftacorn_read_frame() with settings. These are checked before a byte is read: 11, on empty input too. If the size
  * of the stream's blocks is given, then with fixed blocking the number of the first sample is that size times the
  * frame's number, and a block that is larger is refused with 9, after the header and before the room is looked at, with
  * `samples` untouched. If it is unknown, no first sample is known with fixed blocking. With variable blocking the
- * header has the number of the first sample, whatever is given, and the block may have any size.
+ * header has the number of the first sample, whatever is given, and the block may have any size. If the stream's bits
+ * and rate are given, a frame without its own takes these, and one whose own bits are others is refused with 9 before
+ * that; a frame without bits is refused with 8 if they are not given, or are above 24.
  */
 static inline uint8_t thriftacorn_read_frame_with(const uint8_t *bytes, size_t bytes_len,
                                                   const thriftacorn_read_settings *settings, int32_t *samples,
@@ -299,10 +376,12 @@ static inline uint8_t thriftacorn_read_frame_with(const uint8_t *bytes, size_t b
         !thriftacorn_is_known_reading(settings)) {
         return THRIFTACORN_BAD_ARGUMENT;
     }
-    return thriftacorn_read_frame_v2(bytes != NULL ? bytes : &no_byte, bytes_len, settings->block_given,
-                                     settings->block, samples != NULL ? samples : &no_sample, samples_len,
+    return thriftacorn_read_frame_v3(bytes != NULL ? bytes : &no_byte, bytes_len, settings->block_given,
+                                     settings->block, settings->stream_given, settings->stream_bits,
+                                     settings->stream_rate, samples != NULL ? samples : &no_sample, samples_len,
                                      &frame->consumed, &frame->first_sample_known, &frame->first_sample,
-                                     &frame->channels, &frame->bits, &frame->block_size);
+                                     &frame->rate_known, &frame->rate, &frame->channels, &frame->bits,
+                                     &frame->block_size);
 }
 
 /*
@@ -321,10 +400,12 @@ static inline uint8_t thriftacorn_read_next_with(const uint8_t *bytes, size_t by
         !thriftacorn_is_known_reading(settings)) {
         return THRIFTACORN_BAD_ARGUMENT;
     }
-    return thriftacorn_read_next_v2(bytes != NULL ? bytes : &no_byte, bytes_len, place, settings->block_given,
-                                    settings->block, samples != NULL ? samples : &no_sample, samples_len,
+    return thriftacorn_read_next_v3(bytes != NULL ? bytes : &no_byte, bytes_len, place, settings->block_given,
+                                    settings->block, settings->stream_given, settings->stream_bits,
+                                    settings->stream_rate, samples != NULL ? samples : &no_sample, samples_len,
                                     &frame->consumed, &frame->first_sample_known, &frame->first_sample,
-                                    &frame->channels, &frame->bits, &frame->block_size);
+                                    &frame->rate_known, &frame->rate, &frame->channels, &frame->bits,
+                                    &frame->block_size);
 }
 
 /* Whether all reserved fields are zero. */

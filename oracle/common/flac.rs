@@ -1,5 +1,5 @@
 //! The program `flac`, run on files in a folder.
-use crate::signal::{raw, unraw, wave};
+use crate::signal::{raw, shift_bytes, unraw, wave};
 use std::fs;
 use std::path::Path;
 use std::process::{Command, Stdio};
@@ -23,12 +23,18 @@ fn written(command: &mut Command, output: &Path) -> Option<Vec<u8>> {
 /// The options for samples without a file header, which `flac` reads and writes in whole bytes only.
 const RAW: [&str; 3] = ["--force-raw-format", "--endian=little", "--sign=signed"];
 
-/// Encodes interleaved samples with these options; `None` if `flac` does not accept them.
+/// Encodes interleaved samples with these options and no padding; `None` if `flac` does not accept them.
 pub fn encode(folder: &Path, samples: &[i32], channels: usize, bits: u32, words: &[&str]) -> Option<Vec<u8>> {
+    let words: Vec<String> = ["--no-padding"].iter().chain(words).map(|word| word.to_string()).collect();
+    encode_with(folder, samples, channels, bits, &words)
+}
+
+/// The same with these options alone.
+pub fn encode_with(folder: &Path, samples: &[i32], channels: usize, bits: u32, words: &[String]) -> Option<Vec<u8>> {
     let input = folder.join("material.sound");
     let output = folder.join("material.flac");
     let mut command = Command::new("flac");
-    command.args(["-s", "-f", "--no-padding", "--channel-map=none"]);
+    command.args(["-s", "-f", "--channel-map=none"]);
     if bits % 8 == 0 {
         fs::write(&input, raw(samples, bits)).expect("the sound is written");
         command.args(RAW).arg("--sample-rate=48000");
@@ -49,13 +55,15 @@ pub fn decode(folder: &Path, stream: &[u8], bits: u32) -> Option<Vec<i32>> {
     if bits % 8 == 0 {
         command.args(RAW);
     }
-    let bytes = written(command.arg("-o").args([&output, &input]), &output)?;
-    // A WAVE file's samples follow the word 'data' and their length.
-    let start = match bits % 8 {
-        0 => 0,
-        _ => bytes.windows(4).position(|word| word == b"data").expect("a WAVE file has data") + 8,
-    };
-    Some(unraw(&bytes[start..], bits))
+    let mut bytes = written(command.arg("-o").args([&output, &input]), &output)?;
+    // A WAVE file's samples follow the word 'data' and their length. An odd number of bytes is padded.
+    if bits % 8 != 0 {
+        let start = bytes.windows(4).position(|word| word == b"data").expect("a WAVE file has data") + 8;
+        let length = u32::from_le_bytes(bytes[start - 4..start].try_into().expect("four bytes")) as usize;
+        bytes = bytes[start..start + length].to_vec();
+        shift_bytes(&mut bytes, bits);
+    }
+    Some(unraw(&bytes, bits))
 }
 
 /// A stream header: the mark and STREAMINFO (RFC 9639 section 8.2), with the smallest and the largest block, and the number

@@ -13,6 +13,7 @@ pub struct Report {
     pub consumed: usize,
     /// The number of the first sample. claxon always has one.
     pub first: Option<u64>,
+    pub rate: Option<u32>,
     pub channels: usize,
     pub bits: u32,
     pub block_size: usize,
@@ -20,8 +21,8 @@ pub struct Report {
 
 impl From<Frame> for Report {
     fn from(frame: Frame) -> Report {
-        let Frame { consumed, first, channels, bits, block_size, .. } = frame;
-        Report { consumed, first, channels, bits, block_size }
+        let Frame { consumed, first, rate, channels, bits, block_size, .. } = frame;
+        Report { consumed, first, rate, channels, bits, block_size }
     }
 }
 
@@ -154,7 +155,7 @@ impl<'a> Claxon<'a> {
         said.map_or(Answer::Panicked, |said| self.answer(said))
     }
 
-    /// claxon does not report its bits, so they are taken from the header.
+    /// claxon does not report the bits and the rate, so they are taken from the header.
     fn answer(&mut self, said: Said) -> Answer {
         let bytes = &self.cursor.get_ref()[self.start..];
         match said {
@@ -168,12 +169,38 @@ impl<'a> Claxon<'a> {
                 Answer::Frame(Report {
                     consumed: self.cursor.position() as usize - self.start,
                     first: Some(first),
+                    rate: rate_of(bytes),
                     channels: channels as usize,
                     bits: [0, 8, 12, 0, 16, 20, 24, 0][usize::from(bytes[3] >> 1 & 7)],
                     block_size: block_size as usize,
                 })
             }
         }
+    }
+}
+
+/// The sample rate in a header that is whole and right (RFC 9639 sections 9.1.2 and 9.1.7). A rate that is not in the
+/// table stands right before the CRC-8, after the coded number and the block size.
+fn rate_of(header: &[u8]) -> Option<u32> {
+    let after = 4 + (header[4].leading_ones() as usize).max(1);
+    let at = after + [0, 0, 0, 0, 0, 0, 1, 2, 0, 0, 0, 0, 0, 0, 0, 0][usize::from(header[2] >> 4)];
+    let two = || u32::from(u16::from_be_bytes([header[at], header[at + 1]]));
+    match header[2] & 15 {
+        0 => None,
+        1 => Some(88_200),
+        2 => Some(176_400),
+        3 => Some(192_000),
+        4 => Some(8000),
+        5 => Some(16_000),
+        6 => Some(22_050),
+        7 => Some(24_000),
+        8 => Some(32_000),
+        9 => Some(44_100),
+        10 => Some(48_000),
+        11 => Some(96_000),
+        12 => Some(1000 * u32::from(header[at])),
+        13 => Some(two()),
+        _ => Some(10 * two()),
     }
 }
 

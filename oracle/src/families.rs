@@ -13,12 +13,13 @@ pub struct Family {
     pub unit: fn(&mut Judge, usize, &mut Draw, &mut Pen),
 }
 
-pub const FAMILIES: [Family; 15] = [
+pub const FAMILIES: [Family; 16] = [
     Family { name: "built", units: 150, unit: built },
     Family { name: "built-tiny", units: 300, unit: built_tiny },
     Family { name: "extremes", units: 300, unit: extremes },
     Family { name: "edges", units: 12, unit: edges },
     Family { name: "escaped", units: 20, unit: escaped },
+    Family { name: "left-bits", units: 20, unit: left_bits },
     Family { name: "faults", units: 6, unit: faults },
     Family { name: "cuts", units: 2, unit: cuts },
     Family { name: "flips", units: 10, unit: flips },
@@ -88,6 +89,30 @@ fn escaped(judge: &mut Judge, family: usize, draw: &mut Draw, pen: &mut Pen) {
         let mut bytes = pen.bytes.clone();
         damage(draw, &mut bytes, written.header);
         judge.one(family, &bytes);
+    }
+}
+
+/// Frames whose bits are left to the stream: whole, cut short, and with bits changed after the header and the check sums
+/// corrected. claxon reads the same frames with the bits in the header.
+fn left_bits(judge: &mut Judge, family: usize, draw: &mut Draw, pen: &mut Pen) {
+    let extreme = draw.once_in(4);
+    let written = single(draw, pen, Taste { extreme, ..if draw.once_in(8) { MIXED } else { TINY } });
+    let bits = [0, 8, 12, 0, 16, 20, 24, 0][usize::from(pen.bytes[3] >> 1 & 7)];
+    let without = |coded: &[u8]| {
+        let mut left = coded.to_vec();
+        left[3] &= 0xF1;
+        mend(&mut left, written.header);
+        left
+    };
+    judge.left(family, &pen.bytes, &without(&pen.bytes), bits);
+    for _ in 0..8 {
+        let (whole, cut) = (without(&pen.bytes), draw.below(pen.bytes.len() as u32) as usize);
+        judge.left(family, &pen.bytes[..cut], &whole[..cut], bits);
+        let mut copy = pen.bytes.clone();
+        let end = copy.len() - 2;
+        flip(draw, &mut copy[written.header..end]);
+        mend(&mut copy, written.header);
+        judge.left(family, &copy, &without(&copy), bits);
     }
 }
 

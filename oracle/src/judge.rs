@@ -3,13 +3,16 @@ use crate::rule::{due, stream_settings, Entry, Head, LISTED};
 use crate::sample::Sample;
 use common::draw::Draw;
 use common::readers::{Answer, Claxon, Ours, ROOM};
-use thriftacorn::ReadSettings;
+use thriftacorn::{ReadSettings, StreamRecord};
 
 /// One in this many single inputs is read again, with other settings.
 const AGAIN: u32 = 4;
 
 /// The settings of those reads.
 pub const OTHERS: [&str; 5] = ["unknown", "not below the block", "below the block", "0", "above 65535"];
+
+/// The stream's bits in those reads.
+pub const RECORDS: [&str; 4] = ["unknown", "the frame's", "others", "out of range"];
 
 /// How often each answer was seen in one family, by number. An input that got 7 is read again with enough room, and
 /// counted by that answer too.
@@ -49,6 +52,7 @@ pub struct Judge {
     pub total: u64,
     pub listed: [u64; LISTED.len()],
     pub others: [u64; OTHERS.len()],
+    pub records: [u64; RECORDS.len()],
     pub sample: Sample,
 }
 
@@ -62,6 +66,7 @@ impl Judge {
             total: 0,
             listed: [0; LISTED.len()],
             others: [0; OTHERS.len()],
+            records: [0; RECORDS.len()],
             sample,
         }
     }
@@ -178,16 +183,35 @@ impl Judge {
         }
     }
 
+    /// Reads one frame whose bits are left to the stream, with these bits as the stream's. claxon reads the same frame with
+    /// the bits in its header: `coded`. The two must have the same answer. Returns this reader's number.
+    pub fn left(&mut self, family: usize, coded: &[u8], left: &[u8], bits: u32) {
+        let mut claxon = Claxon::new(coded, std::mem::take(&mut self.spare));
+        let asked = Asked::new(family, coded, &mut claxon);
+        let settings = self.stream(&asked).with_stream(StreamRecord { bits, rate: self.draw.bits(20) as u32 });
+        let (ours, _) = self.hold_on(&asked, left, &settings, ROOM);
+        let number = ours.number().expect("this reader has a number for everything");
+        self.total += 1;
+        self.tallies[family].inputs += 1;
+        self.tallies[family].numbers[usize::from(number)] += 1;
+        self.spare = claxon.samples;
+    }
+
     /// Has this reader read, and holds its answer to what claxon's requires. Returns its answer, and the entry by which
     /// that is not claxon's.
     fn hold(&mut self, asked: &Asked, settings: &ReadSettings, room: usize) -> (Answer, Option<Entry>) {
-        let ours = self.ours.read(asked.bytes, settings, room);
+        self.hold_on(asked, asked.bytes, settings, room)
+    }
+
+    /// The same where this reader reads other bytes than claxon did, which must have the same answer.
+    fn hold_on(&mut self, asked: &Asked, bytes: &[u8], settings: &ReadSettings, room: usize) -> (Answer, Option<Entry>) {
+        let ours = self.ours.read(bytes, settings, room);
         let due = due(asked.bytes, asked.head.as_ref(), settings, room, asked.answer);
         let samples_equal = !matches!(ours, Answer::Frame(_)) || self.ours.samples() == asked.samples;
         let in_order = self.ours.is_in_order(ours) && (!due.untouched || self.ours.is_untouched());
         if ours != due.answer || !samples_equal || !in_order {
             println!("a difference off the list, family {}, input {}", self.tallies[asked.family].name, self.total);
-            println!("input  {}", crate::hex(asked.bytes));
+            println!("input  {}", crate::hex(bytes));
             println!("read with {settings:?} and room for {room} samples");
             println!("ours   {ours:?}");
             println!("claxon {:?}, by which {:?} is due", asked.answer, due.answer);
@@ -216,10 +240,30 @@ impl Judge {
             _ => 0,
         };
         let unknown = ReadSettings::new();
-        let (_, entry) = self.hold(asked, &if kind == 0 { unknown } else { unknown.with_block(size) }, room);
+        let blocks = if kind == 0 { unknown } else { unknown.with_block(size) };
+        let settings = ReadSettings { stream: self.record(asked.head.map(|head| head.bits)), ..blocks };
+        let (_, entry) = self.hold(asked, &settings, room);
         self.others[kind] += 1;
-        if let Some(entry @ (Entry::ShortBlock | Entry::LargerBlock)) = entry {
+        if let Some(entry @ (Entry::ShortBlock | Entry::LargerBlock | Entry::OtherBits)) = entry {
             self.listed[entry as usize] += 1;
         }
+    }
+
+    /// A record of the stream, or none, for a frame with these bits in its header.
+    fn record(&mut self, own: Option<u32>) -> Option<StreamRecord> {
+        let kind = self.draw.below(4) as usize;
+        let bits = match (kind, own) {
+            (0, _) => 0,
+            // A header without bits gets more than are read: with fewer, claxon says nothing of the frame.
+            (1 | 2, Some(0)) => self.draw.from(25, 32),
+            (1, Some(bits)) => bits,
+            (1 | 2, _) => {
+                let bits = self.draw.from(4, 32);
+                if own == Some(bits) { 4 } else { bits }
+            }
+            _ => self.draw.pick(&[0, 1, 3, 33, 64, u32::MAX]),
+        };
+        self.records[kind] += 1;
+        (kind > 0).then_some(StreamRecord { bits, rate: self.draw.bits(20) as u32 })
     }
 }

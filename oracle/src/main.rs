@@ -17,7 +17,7 @@ mod subframe;
 use common::draw::Draw;
 use common::flac;
 use families::FAMILIES;
-use judge::{Judge, OTHERS};
+use judge::{Judge, OTHERS, RECORDS};
 use pen::Pen;
 use rule::LISTED;
 use sample::Sample;
@@ -110,6 +110,8 @@ fn report(judge: &Judge, seconds: f64) {
     }
     let others = OTHERS.iter().zip(judge.others).map(|(name, count)| format!("{name} {count} times"));
     println!("read again with another block size: {}", others.collect::<Vec<_>>().join(", "));
+    let records = RECORDS.iter().zip(judge.records).map(|(name, count)| format!("{name} {count} times"));
+    println!("and with the stream's bits: {}", records.collect::<Vec<_>>().join(", "));
     println!("{} inputs in {seconds:.0} s, 0 differences off the list", judge.total);
 }
 

@@ -1,5 +1,5 @@
 //! What this reader must answer, by claxon's answer, the settings and the room. claxon takes no settings: it goes on
-//! whatever the size of a block is, and multiplies a frame's number by that size.
+//! whatever the size of a block and its bits are, and multiplies a frame's number by that size.
 use crate::frame::{block_size, header_length};
 use common::readers::{Answer, Claxon, Report};
 use thriftacorn::ReadSettings;
@@ -15,10 +15,11 @@ pub enum Entry {
     Escaped,
     ShortBlock,
     LargerBlock,
+    OtherBits,
 }
 
 /// The names of the entries.
-pub const LISTED: [&str; 7] = [
+pub const LISTED: [&str; 8] = [
     "one byte of input",
     "bits code 7, 32 bits",
     "number starting with FF",
@@ -26,6 +27,7 @@ pub const LISTED: [&str; 7] = [
     "escaped partition",
     "first sample of a short block",
     "a block larger than the stream's",
+    "bits that are not the stream's",
 ];
 
 /// What a header says that is whole and right.
@@ -34,7 +36,8 @@ pub struct Head {
     is_fixed: bool,
     pub size: usize,
     samples: usize,
-    has_bits: bool,
+    /// The bits of a sample, 0 if the header leaves them to the stream.
+    pub bits: u32,
 }
 
 impl Head {
@@ -46,9 +49,9 @@ impl Head {
             return None;
         }
         let header = bytes.get(..header_length(bytes))?;
-        let has_bits = match Claxon::new(header, Vec::new()).read() {
-            Answer::Refused(2) => true,
-            Answer::Refused(8) => false,
+        let bits = match Claxon::new(header, Vec::new()).read() {
+            Answer::Refused(2) => [0, 8, 12, 0, 16, 20, 24, 0][usize::from(header[3] >> 1 & 7)],
+            Answer::Refused(8) => 0,
             _ => return None,
         };
         let channels = match usize::from(header[3] >> 4) {
@@ -56,7 +59,7 @@ impl Head {
             _ => 2,
         };
         let size = block_size(header);
-        Some(Head { is_fixed: header[1] & 1 == 0, size, samples: channels * size, has_bits })
+        Some(Head { is_fixed: header[1] & 1 == 0, size, samples: channels * size, bits })
     }
 
     /// Whether the block is larger than the stream's, which matters with fixed blocking only.
@@ -79,13 +82,17 @@ pub struct Due {
     pub entry: Option<Entry>,
 }
 
-/// What is due for these bytes, which start with this header, where claxon answers so.
+/// What is due for these bytes, which start with this header, where claxon answers so. A header without bits must not be
+/// given bits of the stream up to 24: claxon does not read on there.
 pub fn due(bytes: &[u8], head: Option<&Head>, settings: &ReadSettings, room: usize, claxon: Answer) -> Due {
     let refused = |number: u8, entry: Option<Entry>| {
         let answer = Answer::Refused(number);
         Due { answer, untouched: true, entry: entry.filter(|_| answer != claxon) }
     };
     if settings.block.is_some_and(|size| !(1..=65535).contains(&size)) {
+        return refused(11, None);
+    }
+    if settings.stream.is_some_and(|stream| !(4..=32).contains(&stream.bits)) {
         return refused(11, None);
     }
     // This reader answers nothing else, so it never agrees with such an answer.
@@ -95,7 +102,8 @@ pub fn due(bytes: &[u8], head: Option<&Head>, settings: &ReadSettings, room: usi
     if let Some((number, entry)) = before_the_sum(bytes) {
         return refused(number, Some(entry));
     }
-    match head.filter(|head| head.has_bits) {
+    match head.filter(|head| head.bits > 0) {
+        Some(head) if settings.stream.is_some_and(|stream| stream.bits != head.bits) => refused(9, Some(Entry::OtherBits)),
         Some(head) if head.is_larger(settings) => refused(9, Some(Entry::LargerBlock)),
         Some(head) if head.samples > room => refused(7, Some(Entry::Room)),
         _ => placed(head, settings, claxon),
@@ -118,16 +126,24 @@ fn before_the_sum(bytes: &[u8]) -> Option<(u8, Entry)> {
     }
 }
 
-/// claxon's answer, with the first sample's number by the stream's block size.
+/// claxon's answer, with the first sample's number by the stream's block size, and the stream's rate if the frame has
+/// none.
 fn placed(head: Option<&Head>, settings: &ReadSettings, claxon: Answer) -> Due {
-    let (answer, entry) = match (claxon, head.filter(|head| head.is_fixed)) {
+    let rated = match claxon {
+        Answer::Frame(frame) => {
+            let rate = frame.rate.or(settings.stream.map(|stream| stream.rate));
+            Answer::Frame(Report { rate, ..frame })
+        }
+        _ => claxon,
+    };
+    let (answer, entry) = match (rated, head.filter(|head| head.is_fixed)) {
         (Answer::Frame(frame), Some(head)) => {
             let number = frame.first.expect("claxon has a number for it") / head.size as u64;
             let first = settings.block.map(|size| number * size as u64);
             let differs = first.is_some() && first != frame.first;
             (Answer::Frame(Report { first, ..frame }), differs.then_some(Entry::ShortBlock))
         }
-        _ => (claxon, None),
+        _ => (rated, None),
     };
     Due { answer, untouched: false, entry }
 }

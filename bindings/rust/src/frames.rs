@@ -1,4 +1,4 @@
-//! Frame after frame of one slice.
+//! Frame after frame of one slice, without a stream header.
 use crate::{library, read::reported, Frame, ReadSettings, Refusal};
 
 /// The frames of a slice, one after the other: each starts where the one before ended, and nothing is skipped. Each
@@ -110,20 +110,26 @@ impl<'a> Frames<'a> {
     pub fn read(&mut self, samples: &mut [i32]) -> Result<Frame, Refusal> {
         let Frames { bytes, settings, place } = self;
         let (block_given, block) = settings.given_block();
-        // SAFETY: as `library` requires; the six pointers are to different fields of `report`, and `place` is not in
+        let (stream_given, bits, rate) = settings.given_stream();
+        // SAFETY: as `library` requires; the eight pointers are to different fields of `report`, and `place` is not in
         // the bytes.
         reported(|report| unsafe {
-            library::thriftacorn_read_next_v2(
+            library::thriftacorn_read_next_v3(
                 bytes.as_ptr(),
                 bytes.len(),
                 place,
                 block_given,
                 block,
+                stream_given,
+                bits,
+                rate,
                 samples.as_mut_ptr(),
                 samples.len(),
                 &mut report.consumed,
                 &mut report.first_known,
                 &mut report.first,
+                &mut report.rate_known,
+                &mut report.rate,
                 &mut report.channels,
                 &mut report.bits,
                 &mut report.size,

@@ -1,12 +1,14 @@
 //! FLAC frames, read and written with a proof.
 //!
 //! [`read_frame`] reads the frame at the start of a slice into a buffer of samples, [`Frames`] reads frame after frame,
-//! and [`write_frame`] writes a frame into a buffer of bytes. All are proved against a definition of RFC 9639: every
-//! input and every buffer gets one answer, and what the buffers hold afterwards is fixed too. No call allocates or
-//! panics, and nothing is kept between calls.
+//! [`read_stream_header`] reads what a FLAC file starts with, [`Stream`] a whole file, and [`write_frame`] writes a frame
+//! into a buffer of bytes. All are proved against a definition of RFC 9639: every input and every buffer gets one answer,
+//! and what the buffers hold afterwards is fixed too. No call panics, none but the iterator of [`Stream`] allocates, and
+//! nothing is kept between calls.
 //!
 //! With fixed blocking a frame does not say where in its stream it belongs: that takes the size of the stream's blocks.
-//! [`ReadSettings`] gives it to the reader, or says that it is unknown. [`Frames`] takes it from the first frame.
+//! A frame may also leave its bits and its rate to the stream header. [`ReadSettings`] gives all that to the reader, or
+//! says that it is unknown. [`Frames`] takes the size from the first frame, [`Stream`] the rest from the header.
 //!
 //! ```
 //! use thriftacorn::{read_frame, ReadSettings, Refusal};
@@ -55,8 +57,8 @@
 //!
 //! # What will not change
 //!
-//! A refusal keeps its number and an answer its meaning. [`Refusal`], [`Frame`], [`ReadSettings`] and
-//! [`WriteSettings`] are `#[non_exhaustive]`: there may be more causes, reports and settings later.
+//! A refusal keeps its number and an answer its meaning. [`Refusal`], [`Frame`], [`StreamInfo`], [`ReadSettings`]
+//! and [`WriteSettings`] are `#[non_exhaustive]`: there may be more causes, reports and settings later.
 //!
 //! The functions come from the static library `libthriftacorn.a`; `build.rs` says where it is found.
 mod block;
@@ -65,12 +67,14 @@ mod library;
 mod read;
 mod refusal;
 mod settings;
+mod stream;
 mod write;
 
 pub use frames::Frames;
 pub use read::{read_frame, Frame, ROOM};
 pub use refusal::{Need, Refusal};
-pub use settings::ReadSettings;
+pub use settings::{ReadSettings, StreamRecord};
+pub use stream::{read_stream_header, Block, Stream, StreamInfo};
 pub use write::{write_frame, Blocking, WriteSettings};
 
 /// The result for a number that the library returned: 0 means the value, any other a refusal.

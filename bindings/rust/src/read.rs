@@ -14,9 +14,12 @@ pub struct Frame {
     /// fixed blocking that number times the size of the stream's blocks. It is `None` if that size is needed and
     /// [`ReadSettings::block`] does not give it.
     pub first: Option<u64>,
+    /// The samples of a channel in one second: the frame's own, or else the stream's. It is `None` if the frame has none
+    /// and [`ReadSettings::stream`] is not given. It changes nothing else.
+    pub rate: Option<u32>,
     /// How many channels there are, 1 to 8.
     pub channels: usize,
-    /// Bits per sample: 8, 12, 16, 20 or 24.
+    /// Bits per sample, 4 to 24: the frame's own (8, 12, 16, 20 or 24), or else the stream's.
     pub bits: u32,
     /// Samples per channel, 1 to 65535.
     pub block_size: usize,
@@ -35,6 +38,8 @@ pub(crate) struct Report {
     pub consumed: usize,
     pub first_known: u32,
     pub first: u64,
+    pub rate_known: u32,
+    pub rate: u32,
     pub channels: usize,
     pub bits: u32,
     pub size: usize,
@@ -44,9 +49,9 @@ pub(crate) struct Report {
 pub(crate) fn reported(call: impl FnOnce(&mut Report) -> u8) -> Result<Frame, Refusal> {
     let mut report = Report::default();
     let number = call(&mut report);
-    let Report { consumed, first_known, first, channels, bits, size } = report;
-    let first = (first_known == 1).then_some(first);
-    answer(number, Frame { consumed, first, channels, bits, block_size: size })
+    let Report { consumed, first_known, first, rate_known, rate, channels, bits, size } = report;
+    let (first, rate) = ((first_known == 1).then_some(first), (rate_known == 1).then_some(rate));
+    answer(number, Frame { consumed, first, rate, channels, bits, block_size: size })
 }
 
 /// Reads the frame at the start of `bytes` into `samples`, channel after channel. Neither the bytes after the frame nor
@@ -62,8 +67,8 @@ pub(crate) fn reported(call: impl FnOnce(&mut Report) -> u8) -> Result<Frame, Re
 /// | 2, 4, 8, 9, from then on | the first N are zero, the others untouched |
 /// | 10 | the first N are zero, the others untouched |
 ///
-/// Settings that no stream has are refused with 11 before a byte is read, so on empty input too. A block larger than
-/// the stream's is refused with 9 after the header, before the room is looked at.
+/// Settings that no stream has are refused with 11 before a byte is read, so on empty input too. Bits that are not the
+/// stream's, and a block larger than the stream's, are refused with 9 after the header, before the room is looked at.
 ///
 /// With the same settings, more bytes can change only the answers 1 and 2, and more room only 7: [`Refusal::needs`]
 /// says which it is. [`ROOM`] is enough for every frame.
@@ -79,18 +84,24 @@ pub(crate) fn reported(call: impl FnOnce(&mut Report) -> u8) -> Result<Frame, Re
 /// ```
 pub fn read_frame(bytes: &[u8], settings: &ReadSettings, samples: &mut [i32]) -> Result<Frame, Refusal> {
     let (block_given, block) = settings.given_block();
-    // SAFETY: as `library` requires; the six pointers are to different fields of `report`.
+    let (stream_given, bits, rate) = settings.given_stream();
+    // SAFETY: as `library` requires; the eight pointers are to different fields of `report`.
     reported(|report| unsafe {
-        library::thriftacorn_read_frame_v2(
+        library::thriftacorn_read_frame_v3(
             bytes.as_ptr(),
             bytes.len(),
             block_given,
             block,
+            stream_given,
+            bits,
+            rate,
             samples.as_mut_ptr(),
             samples.len(),
             &mut report.consumed,
             &mut report.first_known,
             &mut report.first,
+            &mut report.rate_known,
+            &mut report.rate,
             &mut report.channels,
             &mut report.bits,
             &mut report.size,

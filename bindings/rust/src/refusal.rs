@@ -1,7 +1,7 @@
 //! Why a frame was not read or not written, and what that asks of the caller.
 use std::{error::Error, fmt};
 
-/// Why a frame was not read (1 to 11) or not written (11 to 13). Each cause has one number, which it keeps; there may
+/// Why a frame or a stream header was not read (1 to 11) or a frame not written (11 to 13). Each cause has one number, which it keeps; there may
 /// be more causes later. What to do about one is [`Refusal::needs`].
 #[derive(Clone, Copy, Debug, PartialEq, Eq, Hash)]
 #[non_exhaustive]
@@ -9,9 +9,9 @@ use std::{error::Error, fmt};
 pub enum Refusal {
     /// 1: the input is empty.
     NothingLeft = 1,
-    /// 2: the input ends before the frame does. More bytes may make it a frame.
+    /// 2: the input ends before the frame or the stream header does. More bytes may make it one.
     CutShort = 2,
-    /// 3: the sync bits are wrong.
+    /// 3: the sync bits are wrong, or a stream does not start with `fLaC`.
     NotSync = 3,
     /// 4: a reserved or forbidden value, or a one in a bit that must be zero.
     Reserved = 4,
@@ -21,11 +21,11 @@ pub enum Refusal {
     HeaderSum = 6,
     /// 7: the frame has more samples than there is room for.
     NoRoom = 7,
-    /// 8: a part of the format that is not supported: a bit depth given only in the stream's header, 32 bits, a negative
-    /// prediction shift.
+    /// 8: a part of the format that is not supported: more than 24 bits, a negative prediction shift; or a bit depth left
+    /// to a stream header that is not given.
     NotDone = 8,
-    /// 9: sizes that contradict each other: those in the frame, or with fixed blocking a block larger than the
-    /// stream's.
+    /// 9: sizes that contradict each other: those in the frame; bits that are not the stream's, or with fixed blocking a
+    /// block larger than the stream's; a stream header without a STREAMINFO of 34 bytes, or with fewer than 4 bits.
     BadShape = 9,
     /// 10: the frame's CRC-16 differs.
     FrameSum = 10,

@@ -30,12 +30,26 @@ pub struct ReadSettings {
     /// is refused with 11 before a byte is read. Only frames with fixed blocking go by it: their first sample's number
     /// is this size times the frame's, and a block that is larger is refused with 9.
     pub block: Option<usize>,
+    /// What the stream header gives to all frames, or `None` if there is none. Bits outside 4 to 32 are refused with 11
+    /// before a byte is read. A frame that has no bits or no rate of its own takes these; without them, or with more than
+    /// 24 bits, it is refused with 8. A frame whose own bits are others is refused with 9.
+    pub stream: Option<StreamRecord>,
+}
+
+/// The bits of a sample and the sample rate, as a stream header gives them to the frames of its stream
+/// ([`StreamInfo::record`](crate::StreamInfo::record)).
+#[derive(Clone, Copy, Debug, PartialEq, Eq, Hash)]
+pub struct StreamRecord {
+    /// The bits of a sample.
+    pub bits: u32,
+    /// The samples of a channel in one second.
+    pub rate: u32,
 }
 
 impl ReadSettings {
     /// Nothing is known of the stream.
     pub const fn new() -> ReadSettings {
-        ReadSettings { block: None }
+        ReadSettings { block: None, stream: None }
     }
 
     /// The same with this size of the stream's blocks. Nothing is checked here: reading does that.
@@ -43,7 +57,25 @@ impl ReadSettings {
         ReadSettings { block: Some(size), ..self }
     }
 
-    /// What the beginning of a stream says: the size of its blocks is that of the first, whatever its blocking. It
+    /// The same with this record of the stream. Nothing is checked here either.
+    ///
+    /// ```
+    /// use thriftacorn::{read_frame, ReadSettings, Refusal, StreamRecord};
+    ///
+    /// // A frame of one sample of 13 bits: there is no code for 13 bits, so the header leaves them to the stream.
+    /// let frame = [0xFF, 0xF8, 0x60, 0x00, 0x00, 0x00, 0xEA, 0x02, 0xFF, 0xF8, 0x14, 0x8E];
+    /// let (unknown, mut samples) = (ReadSettings::new(), [7; 1]);
+    /// assert_eq!(read_frame(&frame, &unknown, &mut samples), Err(Refusal::NotDone));
+    /// let known = unknown.with_stream(StreamRecord { bits: 13, rate: 250_000 });
+    /// let report = read_frame(&frame, &known, &mut samples)?;
+    /// assert_eq!((report.bits, report.rate, samples), (13, Some(250_000), [-1]));
+    /// # Ok::<(), Refusal>(())
+    /// ```
+    pub const fn with_stream(self, stream: StreamRecord) -> ReadSettings {
+        ReadSettings { stream: Some(stream), ..self }
+    }
+
+    /// What the first frame of a stream says: the size of its blocks is that of the first, whatever its blocking. It
     /// takes the frame's header, not the rest of the frame. If the bytes do not start with a header that is whole and
     /// right, nothing is known.
     ///
@@ -57,7 +89,7 @@ impl ReadSettings {
         let mut block = 0;
         // SAFETY: as `library` requires.
         let given = unsafe { library::thriftacorn_stream_block_v1(bytes.as_ptr(), bytes.len(), &mut block) };
-        ReadSettings { block: (given == 1).then_some(block) }
+        ReadSettings { block: (given == 1).then_some(block), stream: None }
     }
 
     /// The block as the library takes it: whether it is given, and its size.
@@ -65,6 +97,14 @@ impl ReadSettings {
         match self.block {
             Some(size) => (1, size),
             None => (0, 0),
+        }
+    }
+
+    /// The record as the library takes it: whether it is given, the bits and the rate.
+    pub(crate) fn given_stream(&self) -> (u32, u32, u32) {
+        match self.stream {
+            Some(StreamRecord { bits, rate }) => (1, bits, rate),
+            None => (0, 0, 0),
         }
     }
 }

@@ -72,17 +72,23 @@ pub fn answer_bytes(
     ]
 }
 
-// The four bytes of a sample.
-pub fn sample_bytes(x: i32) -> [u8; 4]
-    ensures { λ r. ⌜ r ≡ little 4 (low 32 x) ⌝ }
+// The four low bytes of a number.
+pub fn four_bytes(v: u64) -> [u8; 4]
+    ensures { λ r. ⌜ r ≡ little 4 v ⌝ }
 {
-    let v = signed::low_bits(x as i64, 32);
     [
         low_byte(v),
         low_byte(v / 256),
         low_byte(v / 256 / 256),
         low_byte(v / 256 / 256 / 256),
     ]
+}
+
+// The four bytes of a sample.
+pub fn sample_bytes(x: i32) -> [u8; 4]
+    ensures { λ r. ⌜ r ≡ little 4 (low 32 x) ⌝ }
+{
+    four_bytes(signed::low_bits(x as i64, 32))
 }
 
 // The number in four bytes.

@@ -37,6 +37,13 @@ minus n = negℤ (pos n)
 abbrev pub blocksOf : ℕ → Settings
 blocksOf size = record { block = StreamBlock.Known size; stream = StreamRecord.Unknown }
 
+-- the stream's bits and rate, with the size of its blocks or without
+abbrev pub recordOf : ℕ → ℕ → Settings
+recordOf bits rate = record { block = StreamBlock.Unknown; stream = StreamRecord.Known bits rate }
+
+abbrev pub recordAndBlocks : ℕ → ℕ → ℕ → Settings
+recordAndBlocks bits rate size = record { block = StreamBlock.Known size; stream = StreamRecord.Known bits rate }
+
 abbrev pub unknown : Settings
 unknown = record { block = StreamBlock.Unknown; stream = StreamRecord.Unknown }
 

@@ -9,6 +9,7 @@ pub mod Evaluation
 pub mod MarkedCases
 pub mod PublishedFrames
 pub mod CheckOrder
+pub mod GivenRecords
 pub mod EscapedPartitions
 pub mod AllowedSettings
 pub mod Lists

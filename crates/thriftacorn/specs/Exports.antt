@@ -7,13 +7,18 @@ use mathlib.Core.List.{List}
 use lib.Dec.{eqb}
 use lib.IntN.{ℤ}
 use lib.ListN.{drop}
+use Rattle.reading.specs.Places.{At, gotAt, refusedAt, shortAt}
 use Rattle.reading.specs.Readers.{if_then_else_}
 use Rattle.rfc9639.specs.declared.FirstSample.{FirstSample}
+use Rattle.rfc9639.specs.declared.SampleRate.{SampleRate}
 use Rattle.rfc9639.specs.declared.Settings.{Settings}
 use Rattle.rfc9639.specs.declared.StreamBlock.{StreamBlock}
+use Rattle.rfc9639.specs.declared.StreamInfo.{StreamInfo}
+use Rattle.rfc9639.specs.declared.StreamRecord.{StreamRecord}
 use Rattle.rfc9639.specs.Stream.{firstKnown, firstNumber}
 use Rattle.rfc9639.specs.Read.{Report, Outcome, read}
 use Rattle.rfc9639.specs.FrameByFrame.{streamSettings}
+use Rattle.rfc9639.specs.StreamHeader.{streamHeaderOf}
 use Rattle.rfc9639.specs.Write.{Written, write}
 use Rattle.frame_limits.specs.Longest.{longestOf}
 use Rattle.block.specs.BlockAccess.{channelOf, sampleOf, pairOf}
@@ -31,17 +36,39 @@ blockNumber (StreamBlock.Known size) = size
 
 -- the other way, for any two numbers: where the flag is 0 the size is passed over; a flag that is neither 0 nor 1 gives
 -- a size that no stream has
+unfoldable pub blockOf : ℕ → ℕ → StreamBlock
+blockOf given size =
+    if eqb given 0 then StreamBlock.Unknown
+    else if eqb given 1 then StreamBlock.Known size
+    else StreamBlock.Known 0
+
+-- likewise a flag, the bits and the rate give a stream's record
+unfoldable pub recordOf : ℕ → ℕ → ℕ → StreamRecord
+recordOf given bits rate =
+    if eqb given 0 then StreamRecord.Unknown
+    else if eqb given 1 then StreamRecord.Known bits rate
+    else StreamRecord.Known 0 0
+
+-- the settings of version 2, which has no record, and those of version 3
 unfoldable pub settingsOf : ℕ → ℕ → Settings
-settingsOf given size = record {
-  block =
-      if eqb given 0 then StreamBlock.Unknown
-      else if eqb given 1 then StreamBlock.Known size
-      else StreamBlock.Known 0;
-}
+settingsOf given size = record { block = blockOf given size; stream = StreamRecord.Unknown }
+
+unfoldable pub settingsWith : ℕ → ℕ → ℕ → ℕ → ℕ → Settings
+settingsWith given size streamed bits rate = record { block = blockOf given size; stream = recordOf streamed bits rate }
+
+-- ---- the rate in plain numbers: whether it is known, 1 or 0, and the rate, or 0 if it is unknown
+
+abbrev pub rateKnown : SampleRate → ℕ
+rateKnown SampleRate.Unknown = 0
+rateKnown (SampleRate.Known n) = 1
+
+abbrev pub rateNumber : SampleRate → ℕ
+rateNumber SampleRate.Unknown = 0
+rateNumber (SampleRate.Known n) = n
 
 -- ---- reading
 
--- what is returned for a report, but for the flag of the first sample
+-- what is returned for a report, but for the flag of the first sample and the rate
 pub record ReadNumbers : Type 0 where
   pub refusal : ℕ
   pub consumed : ℕ
@@ -85,9 +112,90 @@ pub record ReadNextV2 (bytes : List ℕ) (place given block : ℕ) (samples : Li
   pub frame : ReadFrameV2 (drop place bytes) given block samples refusal consumed known first channels bits size left
   pub moved : next ≡ place + consumed
 
+pub record ReadFrameV3 (bytes : List ℕ) (set : Settings) (samples : List ℤ) (refusal consumed known first rated rate channels bits size : ℕ) (left : List ℤ) : Type 0 where
+  pub answer : Returned (read set bytes samples) refusal consumed first channels bits size left
+  pub flag : known ≡ firstKnown (read set bytes samples .report .first)
+  pub rate-flag : rated ≡ rateKnown (read set bytes samples .report .rate)
+  pub hertz : rate ≡ rateNumber (read set bytes samples .report .rate)
+
+pub record ReadNextV3 (bytes : List ℕ) (place : ℕ) (set : Settings) (samples : List ℤ) (refusal next consumed known first rated rate channels bits size : ℕ) (left : List ℤ) : Type 0 where
+  pub frame : ReadFrameV3 (drop place bytes) set samples refusal consumed known first rated rate channels bits size left
+  pub moved : next ≡ place + consumed
+
 pub record StreamBlockV1 (bytes : List ℕ) (known block : ℕ) : Type 0 where
   pub flag : known ≡ blockKnown (streamSettings bytes .block)
   pub size : block ≡ blockNumber (streamSettings bytes .block)
+
+-- ---- the stream header
+
+-- what is returned for a stream header
+pub record StreamNumbers : Type 0 where
+  pub refusal : ℕ
+  pub consumed : ℕ
+  pub smallest : ℕ
+  pub largest : ℕ
+  pub shortest : ℕ
+  pub longest : ℕ
+  pub rate : ℕ
+  pub channels : ℕ
+  pub bits : ℕ
+  pub samples : ℕ
+  pub high : ℕ
+  pub low : ℕ
+
+abbrev pub noStream : ℕ → StreamNumbers
+noStream n = record {
+  refusal = n;
+  consumed = 0;
+  smallest = 0;
+  largest = 0;
+  shortest = 0;
+  longest = 0;
+  rate = 0;
+  channels = 0;
+  bits = 0;
+  samples = 0;
+  high = 0;
+  low = 0;
+}
+
+-- an input that ends within the header, an empty one too, is refused 2
+abbrev pub streamNumbers : At StreamInfo → StreamNumbers
+streamNumbers (gotAt info end) = record {
+  refusal = 0;
+  consumed = end .byte;
+  smallest = info .blocks .smallest;
+  largest = info .blocks .largest;
+  shortest = info .frames .smallest;
+  longest = info .frames .largest;
+  rate = info .rate;
+  channels = info .channels;
+  bits = info .bits;
+  samples = info .samples;
+  high = info .md5 .high;
+  low = info .md5 .low;
+}
+streamNumbers (refusedAt n) = noStream n
+streamNumbers shortAt = noStream 2
+
+abbrev pub StreamHeaderV1 : List ℕ → ℕ → ℕ → ℕ → ℕ → ℕ → ℕ → ℕ → ℕ → ℕ → ℕ → ℕ → ℕ → Type 0
+StreamHeaderV1 bytes refusal consumed smallest largest shortest longest rate channels bits samples high low =
+    _≡_ {A = StreamNumbers}
+    (record {
+      refusal = refusal;
+      consumed = consumed;
+      smallest = smallest;
+      largest = largest;
+      shortest = shortest;
+      longest = longest;
+      rate = rate;
+      channels = channels;
+      bits = bits;
+      samples = samples;
+      high = high;
+      low = low;
+    })
+    (streamNumbers (streamHeaderOf bytes))
 
 -- ---- writing
 

@@ -3,6 +3,7 @@ mod block;
 mod needs;
 mod read;
 mod settings;
+mod stream;
 mod write;
 
 use thriftacorn::{Frame, ReadSettings, Refusal};
