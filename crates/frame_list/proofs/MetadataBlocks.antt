@@ -3,9 +3,9 @@
 use Prim.Native.Nat.{ℕ, zero, suc, _+_, _*_, _^_, _≤_, _<_}
 use native.Mathlib.Omega.{arith}
 use mathlib.Core.Path.{_≡_, refl, ap, sym, _∙_, subst}
-use mathlib.Core.Bool.{Bool, true, false}
+use mathlib.Core.Bool.{Bool, true, false, true≢false}
 use mathlib.Core.List.{List, _++_}
-use borrow.Author.Tests.{leb-true, leb-false}
+use borrow.Author.Tests.{leb-true, leb-false, eq-eqb, ne-eqb}
 use lib.Dec.{ltb, leb}
 use lib.ListN.{length}
 use Rattle.reading.specs.declared.Place.{Place}
@@ -19,7 +19,11 @@ use Rattle.reading.proofs.Shifted.{Forward, value, forward-bind, forward-bits, 
 use Rattle.rfc9639.specs.StreamHeader.{lastAndType, blockHead, skippedBlock, skippedBlocks}
 use Rattle.rfc9639.proofs.StreamHeaderBits.{head-takes}
 use Rattle.rfc9639.proofs.StreamHeaderValues.{StreamRefusal, head-holds}
-use Rattle.frame_list.specs.Opening.{byteAt, blocksAfter, blocksFrom}
+use Rattle.error.specs.declared.Refusal.{Refusal}
+use Rattle.error.specs.Numbers.{numberOf, refusedBy}
+use Rattle.stream.specs.declared.BlockHead.{BlockHead}
+use Rattle.stream.specs.Answers.{headAt}
+use Rattle.frame_list.specs.Opening.{byteAt, blocksAfter, blocksFrom, HopsTo}
 
 -- ---- a block's head
 
@@ -165,3 +169,61 @@ pub window-short : (u w : List ℕ) (at : ℕ) → 0 < length u + at → runAt b
 unfolding atFurther
 window-short u w at some e =
     from-short (u ++ w) (length u + at) some (runAt-further head-forward u w (byteAt at) ∙ ap (atFurther (length u)) e)
+
+-- ---- from head to head
+
+-- a refusal by its number
+pub refused-short : {A : Type 0} (e : Refusal) → numberOf e ≡ 2 → refusedBy {A = A} e ≡ shortAt
+refused-short e n = rw (eq-eqb (numberOf e) 2 n)
+
+pub refused-number : {A : Type 0} (e : Refusal) → (numberOf e ≡ 2 → ⊥) → refusedBy {A = A} e ≡ refusedAt (numberOf e)
+refused-number e n = rw (ne-eqb (numberOf e) 2 n)
+
+-- the heads in the window lead from a place to another, where there may be one more
+pub record Hopping (w : List ℕ) (from : ℕ) (was : Bool) (at : ℕ) : Type 0 where
+  pub same : (u more : List ℕ) → 0 < length u + from → blocksFrom was (u ++ (w ++ more)) (length u + from) ≡ blocksFrom false (u ++ (w ++ more)) (length u + at)
+  pub forth : from ≤ at
+
+pub hopping : (w : List ℕ) (from : ℕ) {was : Bool} → was ≡ false → Hopping w from was from
+hopping w from e = record { same = λ u more some. ap (λ b. blocksFrom b (u ++ (w ++ more)) (length u + from)) e; forth = omega arith }
+
+module _ {w : List ℕ} {from : ℕ} {was : Bool} {at : ℕ} (h : Hopping w from was at) {r : BlockHead} (is : headAt r ≡ runAt blockHead w (byteAt at)) where
+  module _ {last : Bool} {size : ℕ} {end : Place} (e : r ≡ BlockHead.Head last size end) where
+    got-head : runAt blockHead w (byteAt at) ≡ gotAt (last, size) end
+    got-head = sym is ∙ ap headAt e
+
+    pub next-head : Head w at size end
+    next-head = head-is w at got-head
+
+    hop-same : (u more : List ℕ) → 0 < length u + from → blocksFrom was (u ++ (w ++ more)) (length u + from) ≡ blocksFrom last (u ++ (w ++ more)) (length u + (end .byte + size))
+    hop-same u more some =
+        h .same u more some ∙ window-next u w more at (omega (arith, h .forth)) got-head
+        ∙ ap (λ (p : Place). blocksFrom last (u ++ (w ++ more)) (length u + (p .byte + size))) (sym (next-head .ends))
+
+    forwards : from ≤ end .byte + size
+    forwards = omega (arith, h .forth, ap (λ (p : Place). p .byte) (next-head .ends))
+
+    pub hop-on : last ≡ false → Hopping w from was (end .byte + size)
+    hop-on f = record { same = λ u more some. hop-same u more some ∙ ap (λ b. blocksFrom b (u ++ (w ++ more)) (length u + (end .byte + size))) f; forth = forwards }
+
+    pub hop-last : last ≡ true → HopsTo w from was (end .byte + size) true
+    hop-last f = record {
+      same = λ u more some. hop-same u more some ∙ ap (λ b. blocksFrom b (u ++ (w ++ more)) (length u + (end .byte + size))) f;
+      no-head = λ z. absurd (true≢false z);
+      forth = forwards;
+    }
+
+  module _ {e : Refusal} (f : r ≡ BlockHead.Refused e) where
+    pub hop-short : numberOf e ≡ 2 → HopsTo w from was at false
+    hop-short n = record { same = h .same; no-head = λ z. sym is ∙ ap headAt f ∙ refused-short e n; forth = h .forth }
+
+    pub hop-refused : (numberOf e ≡ 2 → ⊥) → (u more : List ℕ) → 0 < length u + from → blocksFrom was (u ++ (w ++ more)) (length u + from) ≡ refusedAt (numberOf e)
+    hop-refused n u more some = h .same u more some ∙ window-refused u w more at (omega (arith, h .forth)) (sym is ∙ ap headAt f ∙ refused-number e n)
+
+-- after the last block there is none
+pub hops-done : (w : List ℕ) (from : ℕ) {was : Bool} → was ≡ true → HopsTo w from was from true
+hops-done w from e = record {
+  same = λ u more some. ap (λ b. blocksFrom b (u ++ (w ++ more)) (length u + from)) e;
+  no-head = λ z. absurd (true≢false z);
+  forth = omega arith;
+}

@@ -4,7 +4,7 @@ use native.Mathlib.Omega.{arith}
 use mathlib.Core.Path.{_≡_, refl, ap, sym, _∙_, subst}
 use mathlib.Core.Bool.{Bool, true, _&&_}
 use mathlib.Core.List.{List, _++_, append-assoc}
-use borrow.Author.Tests.{le-leb, eq-eqb, ne-eqb}
+use borrow.Author.Tests.{le-leb}
 use lib.ListN.{length, take}
 use Rattle.reading.specs.declared.Place.{Place}
 use Rattle.reading.specs.Readers.{Ask, done, _>>=_}
@@ -28,15 +28,9 @@ use Rattle.frame_list.specs.declared.opening.Skipped.{Skipped}
 use Rattle.frame_list.specs.declared.opening.StartTurn.{StartTurn}
 use Rattle.frame_list.specs.CardProgress.{Sound, Continues, Wanting, Closes}
 use Rattle.frame_list.specs.Opening.{byteAt, blocksAfter, blocksFrom, Tells, SkipsAll, SkipsTo, Waits, Refusing, Unfound, Unstarted, NotFound, Found, StartTurns, Bare, Headed, HeaderOver, Stream}
+use Rattle.frame_list.proofs.MetadataBlocks.{refused-short, refused-number}
 
 -- ---- a refusal of the start
-
--- by number
-pub refused-short : (e : Refusal) → numberOf e ≡ 2 → refusedBy {A = Bool × StreamInfo} e ≡ shortAt
-refused-short e n = rw (eq-eqb (numberOf e) 2 n)
-
-pub refused-number : {A : Type 0} (e : Refusal) → (numberOf e ≡ 2 → ⊥) → refusedBy {A = A} e ≡ refusedAt (numberOf e)
-refused-number e n = rw (ne-eqb (numberOf e) 2 n)
 
 module _ (s : List ℕ) where
   header-short : runAt streamStart s (placeOf 0) ≡ shortAt → streamHeaderOf s ≡ shortAt

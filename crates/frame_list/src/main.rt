@@ -425,23 +425,6 @@ pub enum Word {
     Name,
 }
 
-// Whether two words are the same.
-fn same(a: &[u8], b: &[u8]) -> bool {
-    if a.len() != b.len() {
-        return false;
-    }
-    let mut i = 0;
-    while i < a.len() {
-        if i < b.len() {
-            if a[i] != b[i] {
-                return false;
-            }
-        }
-        i += 1;
-    }
-    true
-}
-
 fn word_of(text: &[u8]) -> Word {
     if text.len() == 0 {
         return Word::Name;
@@ -452,10 +435,10 @@ fn word_of(text: &[u8]) -> Word {
     if text.len() == 1 {
         return Word::Input;
     }
-    if same(text, b"--help") {
+    if check::same(text, b"--help") {
         return Word::Help;
     }
-    if same(text, b"-h") {
+    if check::same(text, b"-h") {
         return Word::Help;
     }
     Word::Unknown

@@ -105,7 +105,8 @@ fn put_seconds(line: &mut [u8; LINE], start: usize, samples: u64, rate: u32) -> 
     let r = rate as u64;
     let n = put_field(line, start, b", ", samples / r);
     let n = put_thousandths(line, n, samples % r * 1000 / r);
-    put_field(line, n, b" seconds at ", r)
+    let n = put_field(line, n, b" seconds at ", r);
+    put(line, n, b" hertz")
 }
 
 fn put_length(line: &mut [u8; LINE], t: Totals) -> usize
