@@ -19,22 +19,22 @@ use Rattle.frame_list.specs.declared.opening.Skip.{Skip}
 use Rattle.frame_list.specs.declared.opening.SkipTurn.{SkipTurn}
 use Rattle.frame_list.specs.CardProgress.{Sound, ahead, Continues, Wanting, Closes, Refills}
 use Rattle.frame_list.specs.Opening.{byteAt, blocksFrom, HopsTo, Refilled, Moves, Moved, Arrives, Lacking, Stuck, Passes, Tells, GoesOn, ToFrames, Ends, SkipTurns, SkipsAll, SkipsTo}
-use Rattle.frame_list.proofs.CardTurns.{window-kept, fresh, window-joined}
+use Rattle.frame_list.proofs.CardTurns.{refills-on, refills-over, window-kept, fresh, window-joined}
 use Rattle.frame_list.proofs.MetadataBlocks.{from-past, from-end, window-short}
 
 -- ---- a move of the window
 
 module _ (was left : List ℕ) (card : Card) (pass : ℕ) (last : Bool) where
-  module _ {place : ℕ} (p : place ≡ min pass (card .held)) {turn : Turn} (h : Refills was card place Refusal.CutShort turn left) where
+  module _ (place : ℕ) (p : place ≡ min pass (card .held)) (turn : Turn) (h : Refills was card place Refusal.CutShort turn left) where
     pub refilled : {next : Card} → turn ≡ Turn.On next → Refilled was card pass last (record { card = next; pass = pass - place; last = last }) left
     refilled {next} e = record {
-      goes = subst (λ n. Continues was card n next left) p (subst (λ (t : Turn). Refills was card place Refusal.CutShort t left) e h);
+      goes = subst (λ n. Continues was card n next left) p (refills-on was left card place Refusal.CutShort turn h e);
       same-place = ap (λ n. pass - n) p;
       same-last = refl;
     }
 
     pub closed : {end : Last} → turn ≡ Turn.Over end → Closes card (min pass (card .held)) Refusal.CutShort end
-    closed {end} e = subst (λ n. Closes card n Refusal.CutShort end) p (subst (λ (t : Turn). Refills was card place Refusal.CutShort t left) e h)
+    closed {end} e = subst (λ n. Closes card n Refusal.CutShort end) p (refills-over was left card place Refusal.CutShort turn h e)
 
   lacking : (last ≡ true → card .held < pass) → (how : How) → Wanting Refusal.CutShort how → Lacking card pass last how
   lacking past (How.Ended x) e = past
@@ -97,6 +97,17 @@ module _ (was left : List ℕ) (skip : Skip) (sound : Sound (skip .card) (length
     place-fits = omega arith;
     tells = λ u some more. ap (λ (s : List ℕ). blocksFrom (skip .last) s (length u + skip .pass)) (append-assoc u w more) ∙ h u more some;
   }
+
+-- by the turn that it gives
+module _ (was left : List ℕ) (skip : Skip) (turn : SkipTurn) (h : SkipTurns was skip turn left) where
+  pub skips-on : {next : Skip} → turn ≡ SkipTurn.On next → GoesOn was skip next left
+  skips-on e = subst (λ (t : SkipTurn). SkipTurns was skip t left) e h
+
+  pub skips-to-frames : {next : Card} → turn ≡ SkipTurn.Frames next → ToFrames was skip next left
+  skips-to-frames e = subst (λ (t : SkipTurn). SkipTurns was skip t left) e h
+
+  pub skips-over : {end : Last} → turn ≡ SkipTurn.Over end → Ends was skip end
+  skips-over e = subst (λ (t : SkipTurn). SkipTurns was skip t left) e h
 
 -- ---- all looks
 

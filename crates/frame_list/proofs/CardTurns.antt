@@ -65,6 +65,14 @@ module _ (was : List ℕ) (card : Card) (place : ℕ) (e : Refusal) (sound : Sou
       further = omega (arith, less (filled .rest) (fills .enough), one-pending);
     }
 
+-- by the turn that it gives
+module _ (was left : List ℕ) (card : Card) (place : ℕ) (e : Refusal) (turn : Turn) (h : Refills was card place e turn left) where
+  pub refills-on : {next : Card} → turn ≡ Turn.On next → Continues was card place next left
+  refills-on is = subst (λ (t : Turn). Refills was card place e t left) is h
+
+  pub refills-over : {end : Last} → turn ≡ Turn.Over end → Closes card place e end
+  refills-over is = subst (λ (t : Turn). Refills was card place e t left) is h
+
 drop-of-take : (k m : ℕ) (l : List ℕ) → k ≤ m → k ≤ length l → drop k (take m l) ≡ take (m - k) (drop k l)
 drop-of-take k m l h g =
     let e : m ≡ k + (m - k) = omega arith in

@@ -114,6 +114,20 @@ module _ (was left : List ℕ) (card : Card) (e : Refusal) where
     unstarted-turns (StartTurn.Header info skip) h = absurd h
     unstarted-turns (StartTurn.Over end) h = record { same-card = h .same-card; same-place = h .same-place; tells = refused-tells (end .how) (h .how) }
 
+-- by the turn that it gives
+module _ (was left : List ℕ) (card : Card) (turn : StartTurn) (h : StartTurns was card turn left) where
+  pub starts-on : {next : Card} → turn ≡ StartTurn.On next → Continues was card 0 next left
+  starts-on e = subst (λ (t : StartTurn). StartTurns was card t left) e h
+
+  pub starts-bare : {next : Card} → turn ≡ StartTurn.Bare next → next ≡ card
+  starts-bare e = subst (λ (t : StartTurn). StartTurns was card t left) e h
+
+  pub starts-header : {info : StreamInfo} {skip : Skip} → turn ≡ StartTurn.Header info skip → (left ≡ was) × Found (take (card .held) was) card info skip
+  starts-header e = subst (λ (t : StartTurn). StartTurns was card t left) e h
+
+  pub starts-over : {end : Last} → turn ≡ StartTurn.Over end → NotFound (take (card .held) was) card end
+  starts-over e = subst (λ (t : StartTurn). StartTurns was card t left) e h
+
 -- ---- all looks: the window's first byte stays the card's
 
 module _ (card : Card) (width : ℕ) (bare : Bare card width) where
@@ -124,9 +138,12 @@ module _ (card : Card) (width : ℕ) (bare : Bare card width) where
     sound = subst (Sound next) long (c .sound);
   }
 
+  pub bare-again : (left : List ℕ) (next : Card) → length left ≡ width → next ≡ card → Bare next (length left)
+  bare-again left next long same = subst (λ n. Bare next n) (sym long) (subst (λ (c : Card). Bare c width) (sym same) bare)
+
   pub bare-headed : (w left : List ℕ) (info : StreamInfo) (skip : Skip) → length left ≡ width → left ≡ w → Found (take (card .held) w) card info skip → Headed info skip left
   bare-headed w left info skip long same f = record {
-    bare = subst (λ n. Bare (skip .card) n) (sym long) (subst (λ (c : Card). Bare c width) (sym (f .same-card)) bare);
+    bare = bare-again left (skip .card) long (f .same-card);
     start =
         subst (λ (c : Card). runAt streamStart (take (c .held) left) (placeOf 0) ≡ gotAt (skip .last, info) (byteAt (skip .pass))) (sym (f .same-card))
         (subst (λ (s : List ℕ). runAt streamStart (take (card .held) s) (placeOf 0) ≡ gotAt (skip .last, info) (byteAt (skip .pass))) (sym same) (f .start));

@@ -46,11 +46,11 @@ frame-line-requires c κs = search needs
 
 with-frame-requires : tie.Need-with-frame-requires Inv-loop μ-loop
 with-frame-requires c κs =
-    let d = c .before .before .before .before .before .before in
+    let d = c .before .before .before .before .before in
     let l = d .before .before in
     let a = l .before .before .before in
     let set : Settings = record { block = l .before .stream-block .result; stream = a .args .before .stream } in
-    omega (arith, frame-samples-fit (a .args .bytes .now) (l .loop .place) set (l .loop .samples) (d .read-next .ensures) (c .before .before .before .answer .given .1), a .good .1 .1 .1 .0)
+    omega (arith, frame-samples-fit (a .args .bytes .now) (l .loop .place) set (l .loop .samples) (d .read-next .ensures) (c .before .before .answer .given .1), a .good .1 .1 .1 .0)
 
 loop-less : tie.Need-loop-less Inv-loop μ-loop
 loop-less c =

@@ -9,11 +9,11 @@ use Rattle.frame_list.proofs.read_card.Statement.{statement}
 use Rattle.frame_list.proofs.read_card.Tie as tie
 
 abbrev Inv-loop : tie.InvT-loop
-Inv-loop fd start window₀ samples₀ card₀ window samples card =
-    Sound card (length window₀) × (length window ≡ length window₀) × (length samples ≡ length samples₀) × SoFar (length samples₀) start (take (start .held) window₀) window card
+Inv-loop fd window₀ samples₀ card₀ window samples card =
+    Sound card (length window₀) × (length window ≡ length window₀) × (length samples ≡ length samples₀) × SoFar (length samples₀) card₀ (take (card₀ .held) window₀) window card
 
 abbrev μ-loop : tie.MeasureT-loop
-μ-loop fd start window₀ samples₀ card₀ window samples card = ahead card
+μ-loop fd window₀ samples₀ card₀ window samples card = ahead card
 
 loop-holds : tie.Need-loop-holds Inv-loop μ-loop
 loop-holds c =

@@ -9,10 +9,6 @@ use Rattle.reading.specs.declared.Place.{Place}
 use Rattle.frame_list.proofs.MetadataBlocks.{Hopping, hopping, next-head, hop-on, hop-last, hop-short, hop-refused, hops-done}
 use Rattle.frame_list.proofs.opening.pass_heads.Statement.{statement}
 use Rattle.frame_list.proofs.opening.pass_heads.Tie as tie
-use Rattle.frame_list.proofs.opening.pass_heads.Reads as reads
-use Rattle.frame_list.proofs.opening.pass_heads.Lts as lts
-use Rattle.error.proofs.number_of.Reads as number-of-reads
-use Rattle.stream.proofs.read_block_head.Reads as read-block-head-reads
 
 abbrev Inv-loop : tie.InvT-loop
 Inv-loop bytes start done pass₀ pass = Hopping bytes start done pass
@@ -20,53 +16,67 @@ Inv-loop bytes start done pass₀ pass = Hopping bytes start done pass
 abbrev μ-loop : tie.MeasureT-loop
 μ-loop bytes start done pass₀ pass = length bytes - pass
 
--- src/opening.rt:79:9
 returns : tie.Need-returns Inv-loop μ-loop
-returns c = ?
+returns c = hops-done _ _ (c .if1 .taken)
 
--- src/opening.rt:82:5
 loop-holds : tie.Need-loop-holds Inv-loop μ-loop
-loop-holds c = ?
+loop-holds c = hopping _ _ (c .if1 .left)
 
--- src/opening.rt:83:13
 read-block-head-requires : tie.Need-read-block-head-requires Inv-loop μ-loop
 read-block-head-requires c κs = search needs
 
--- src/opening.rt:85:29
 enum-known-head : tie.Need-enum-known-head Inv-loop μ-loop
 enum-known-head c = search needs
 
--- src/opening.rt:86:28
 add-next : tie.Need-add-next Inv-loop μ-loop
-add-next c = ?
+add-next c = 
+    let m = c .before .before in
+    let r = m .before .before in
+    let l = r .before in
+    let h = next-head (l .loop .inv) (r .read-block-head .ensures) (m .head .given .1) in
+    omega (arith, ap (λ (p : Place). p .byte) (h .ends), h .there, h .few, l .before .before .before .good .0 .1)
 
--- src/opening.rt:88:21
 returns-2 : tie.Need-returns-2 Inv-loop μ-loop
-returns-2 c = ?
+returns-2 c = 
+    let m = c .before .before .before in
+    let r = m .before .before in
+    let l = r .before in
+    hop-last (l .loop .inv) (r .read-block-head .ensures) (m .head .given .1) (c .if2 .taken)
 
--- src/opening.rt:82:5
 loop-less : tie.Need-loop-less Inv-loop μ-loop
-loop-less c = ?
+loop-less c = 
+    let m = c .before .before .before in
+    let r = m .before .before in
+    let l = r .before in
+    let h = next-head (l .loop .inv) (r .read-block-head .ensures) (m .head .given .1) in
+    omega (arith, ap (λ (p : Place). p .byte) (h .ends), h .there)
 
--- src/opening.rt:82:5
 loop-again : tie.Need-loop-again Inv-loop μ-loop
-loop-again c = ?
+loop-again c = 
+    let m = c .before .before .before in
+    let r = m .before .before in
+    let l = r .before in
+    hop-on (l .loop .inv) (r .read-block-head .ensures) (m .head .given .1) (c .if2 .left)
 
--- src/opening.rt:92:32
 enum-known-head-2 : tie.Need-enum-known-head-2 Inv-loop μ-loop
 enum-known-head-2 c = search needs
 
--- src/opening.rt:93:20
 number-of-requires : tie.Need-number-of-requires Inv-loop μ-loop
 number-of-requires c κs = search needs
 
--- src/opening.rt:94:21
 returns-3 : tie.Need-returns-3 Inv-loop μ-loop
-returns-3 c = ?
+returns-3 c = 
+    let m = c .before .before .before in
+    let r = m .before .before in
+    let l = r .before in
+    hop-short (l .loop .inv) (r .read-block-head .ensures) (m .head2 .given .1) (omega arith)
 
--- src/opening.rt:96:17
 returns-4 : tie.Need-returns-4 Inv-loop μ-loop
-returns-4 c = ?
+returns-4 c = 
+    let m = c .before .before .before in
+    let r = m .before .before in
+    let l = r .before in
+    hop-refused (l .loop .inv) (r .read-block-head .ensures) (m .head2 .given .1) (λ z. omega arith)
 
 pub pass-heads-spec : {M : Type 1} → statement M
 pass-heads-spec =

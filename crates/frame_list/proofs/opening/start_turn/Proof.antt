@@ -1,50 +1,46 @@
+-- `frames::opening::start_turn` meets its contract, by what the first bytes are. Assumes nothing.
+use mathlib.Core.Path.{refl, ap, sym, _∙_}
+use lib.Seq.{length-take-le}
+use Rattle.stream.specs.Answers.{startAt}
+use Rattle.frame_list.proofs.StreamStarts.{unstarted-turns}
 use borrow.Author.Needs.{needs}
 use Rattle.frame_list.proofs.opening.start_turn.Statement.{statement}
 use Rattle.frame_list.proofs.opening.start_turn.Tie as tie
-use Rattle.frame_list.proofs.opening.start_turn.Reads as reads
-use Rattle.frame_list.proofs.opening.start_turn.Lts as lts
-use Rattle.frame_list.proofs.opening.no_start.Reads as no-start-reads
-use Rattle.stream.proofs.read_stream_start.Reads as read-stream-start-reads
 
--- src/opening.rt:245:43
 slice-reshare-prefix-read-stream-start : tie.Need-slice-reshare-prefix-read-stream-start
 slice-reshare-prefix-read-stream-start c = search needs
 
--- src/opening.rt:245:43
 slice-aggregate-read-stream-start : tie.Need-slice-aggregate-read-stream-start
-slice-aggregate-read-stream-start c = ?
+slice-aggregate-read-stream-start c = 
+    let a = c .before .before in
+    sym (length-take-le (a .args .card .held) (a .args .window .now) (a .pre .held-fits))
 
--- src/opening.rt:245:9
 read-stream-start-requires : tie.Need-read-stream-start-requires
 read-stream-start-requires c κs = search needs
 
--- src/opening.rt:247:26
 enum-known-start : tie.Need-enum-known-start
 enum-known-start c = search needs
 
--- src/opening.rt:248:28
 enum-known-start-2 : tie.Need-enum-known-start-2
 enum-known-start-2 c = search needs
 
--- src/opening.rt:248:34
 no-start-requires : tie.Need-no-start-requires
 no-start-requires c κs = search needs
 
--- src/opening.rt:240:1
 same-length : tie.Need-same-length
 same-length c = search needs
 
--- src/opening.rt:240:1
 returns : tie.Need-returns
-returns c = ?
+returns c = (refl, record { same-card = refl; start = sym (c .before .before .before .read-stream-start .ensures) ∙ ap startAt (c .before .start .given .1) })
 
--- src/opening.rt:240:1
 same-length-2 : tie.Need-same-length-2
 same-length-2 c = search needs
 
--- src/opening.rt:240:1
 returns-2 : tie.Need-returns-2
-returns-2 c = ?
+returns-2 c = 
+    let a = c .before .before .before .before .before .before .before .before .before .before in
+    let r = c .before .before in
+    unstarted-turns (a .args .window .now) (r .no-start .last .1 .1 .1 .0) (a .args .card) (c .before .before .before .before .before .start2 .given .0 .0) (ap startAt (sym (c .before .before .before .before .before .start2 .given .1)) ∙ c .before .before .before .before .before .before .before .read-stream-start .ensures) (r .no-start .result) (r .no-start .ensures)
 
 pub start-turn-spec : {M : Type 1} → statement M
 start-turn-spec =
