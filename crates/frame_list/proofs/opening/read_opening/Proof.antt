@@ -1,7 +1,6 @@
 -- `frames::opening::read_opening` meets its contract: the start, and the blocks after it. Assumes nothing.
-use native.Mathlib.Omega.{arith}
-use mathlib.Core.Path.{sym, subst}
-use lib.ListN.{length, take}
+use mathlib.Core.Path.{subst}
+use lib.ListN.{take}
 use Rattle.frame_list.specs.declared.opening.Skipped.{Skipped}
 use Rattle.frame_list.specs.Opening.{Starts, Skips}
 use Rattle.frame_list.proofs.StreamStarts.{start-some, header-all, header-over}
@@ -19,7 +18,11 @@ enum-known-started-2 : tie.Need-enum-known-started-2
 enum-known-started-2 c = search needs
 
 skip-blocks-requires : tie.Need-skip-blocks-requires
-skip-blocks-requires c κs = ?
+skip-blocks-requires c κs = 
+    let s = c .before .before .before .before .before .before in
+    let m = c .before .before in
+    let h = subst (Starts (s .read-start .last .1 .0)) (m .started2 .given .1) (s .read-start .ensures) in
+    (h .bare .sound, h .bare .no-base, start-some (take (m .started2 .given .0 .1 .0 .card .held) (s .read-start .last .1 .0)) (h .start))
 
 enum-known-skipped : tie.Need-enum-known-skipped
 enum-known-skipped c = search needs
