@@ -85,7 +85,7 @@ module _ (s : List ℕ) (at : ℕ) where
       let h = head-is s at e in
       let contents : Bool × ℕ → Ask Bool = λ x. bits (8 * x .1) >>= (λ _. done (x .0)) in
       let block : runAt skippedBlock s (byteAt at) ≡ runAt (done last) s (byteAt (at + 4 + size)) =
-          bind-got blockHead s (byteAt at) contents e ∙ ap (runAt (contents (last, size)) s) (h .ends) ∙ after-bytes s (at + 4) size (done last) (h .there) in
+      bind-got blockHead s (byteAt at) contents e ∙ ap (runAt (contents (last, size)) s) (h .ends) ∙ after-bytes s (at + 4) size (done last) (h .there) in
       bind-is skippedBlock s (byteAt at) (λ l. blocksAfter l n) block ∙ sym (runAt-bind (done last) s (byteAt (at + 4 + size)) (λ l. blocksAfter l n))
 
   pub blocks-refused : (n m : ℕ) → runAt blockHead s (byteAt at) ≡ refusedAt m → runAt (skippedBlocks (suc n)) s (byteAt at) ≡ refusedAt m

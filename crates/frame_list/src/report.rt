@@ -349,7 +349,11 @@ pub fn two_names() {
 pub fn unknown_argument() {
     let mut line = [0u8; LINE];
     let n = put_nothing(&mut line);
-    let n = put(&mut line, n, b"unknown argument; --help lists those that there are");
+    let n = put(
+        &mut line,
+        n,
+        b"unknown argument; --help lists those that there are",
+    );
     write_line(&mut line, n);
 }
 

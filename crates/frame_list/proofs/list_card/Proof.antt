@@ -14,7 +14,7 @@ enum-known-opening : tie.Need-enum-known-opening
 enum-known-opening c = search needs
 
 list-from-requires : tie.Need-list-from-requires
-list-from-requires c κs = 
+list-from-requires c κs =
     let o = subst (Opens (c .before .before .before .before .before .before .before .read-opening .last .1 .0)) (c .before .before .before .opening .given .1) (c .before .before .before .before .before .before .before .read-opening .ensures) in
     o .sound
 
@@ -28,7 +28,7 @@ totals-of-requires : tie.Need-totals-of-requires
 totals-of-requires c κs = search needs
 
 list-from-requires-2 : tie.Need-list-from-requires-2
-list-from-requires-2 c κs = 
+list-from-requires-2 c κs =
     let o = subst (Opens (c .before .before .before .before .before .before .before .before .before .read-opening .last .1 .0)) (c .before .before .before .before .before .opening2 .given .1) (c .before .before .before .before .before .before .before .before .before .read-opening .ensures) in
     record {
       held-fits = o .sound .held-fits;
@@ -40,7 +40,7 @@ enum-known-opening-3 : tie.Need-enum-known-opening-3
 enum-known-opening-3 c = search needs
 
 write-header-over-requires : tie.Need-write-header-over-requires
-write-header-over-requires c κs = 
+write-header-over-requires c κs =
     let o = subst (Opens (c .before .before .before .before .before .read-opening .last .1 .0)) (c .before .opening3 .given .1) (c .before .before .before .before .before .read-opening .ensures) in
     (o .numbered, o .place-fits)
 

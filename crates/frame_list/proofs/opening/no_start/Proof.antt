@@ -15,7 +15,7 @@ same-length : tie.Need-same-length
 same-length c = search needs
 
 returns : tie.Need-returns
-returns c = 
+returns c =
     let a = c .before .before .before .before .before .before .before in
     let r = c .before .before in
     waits-unstarted (a .args .window .now) (r .short-start .last .1 .1 .0) (a .args .card) (a .args .e) (omega arith) (r .short-start .result) (r .short-start .ensures)

@@ -29,7 +29,7 @@ enum-known-head : tie.Need-enum-known-head Inv-loop μ-loop
 enum-known-head c = search needs
 
 add-next : tie.Need-add-next Inv-loop μ-loop
-add-next c = 
+add-next c =
     let m = c .before .before in
     let r = m .before .before in
     let l = r .before in
@@ -37,14 +37,14 @@ add-next c =
     omega (arith, ap (λ (p : Place). p .byte) (h .ends), h .there, h .few, l .before .before .before .good .0 .1)
 
 returns-2 : tie.Need-returns-2 Inv-loop μ-loop
-returns-2 c = 
+returns-2 c =
     let m = c .before .before .before in
     let r = m .before .before in
     let l = r .before in
     hop-last (l .loop .inv) (r .read-block-head .ensures) (m .head .given .1) (c .if2 .taken)
 
 loop-less : tie.Need-loop-less Inv-loop μ-loop
-loop-less c = 
+loop-less c =
     let m = c .before .before .before in
     let r = m .before .before in
     let l = r .before in
@@ -52,7 +52,7 @@ loop-less c =
     omega (arith, ap (λ (p : Place). p .byte) (h .ends), h .there)
 
 loop-again : tie.Need-loop-again Inv-loop μ-loop
-loop-again c = 
+loop-again c =
     let m = c .before .before .before in
     let r = m .before .before in
     let l = r .before in
@@ -65,14 +65,14 @@ number-of-requires : tie.Need-number-of-requires Inv-loop μ-loop
 number-of-requires c κs = search needs
 
 returns-3 : tie.Need-returns-3 Inv-loop μ-loop
-returns-3 c = 
+returns-3 c =
     let m = c .before .before .before in
     let r = m .before .before in
     let l = r .before in
     hop-short (l .loop .inv) (r .read-block-head .ensures) (m .head2 .given .1) (omega arith)
 
 returns-4 : tie.Need-returns-4 Inv-loop μ-loop
-returns-4 c = 
+returns-4 c =
     let m = c .before .before .before in
     let r = m .before .before in
     let l = r .before in

@@ -15,7 +15,7 @@ same-length : tie.Need-same-length
 same-length c = search needs
 
 returns : tie.Need-returns
-returns c = 
+returns c =
     let a = c .before .before .before .before .before .before in
     let r = c .before .before in
     moves-pass (a .args .window .now) (r .refill .last .1 .1 .1 .1 .0) (a .args .card) (a .args .pass) (a .args .last) (λ t. absurd (true≢false (sym t ∙ not-true (a .args .last) (c .before .before .before .before .if1 .taken)))) (r .refill .result) (r .refill .ensures)
@@ -27,7 +27,7 @@ same-length-2 : tie.Need-same-length-2
 same-length-2 c = search needs
 
 returns-2 : tie.Need-returns-2
-returns-2 c = 
+returns-2 c =
     let a = c .before .before .before .before .before .before .before .before in
     let r = c .before .before in
     moves-pass (a .args .window .now) (r .refill2 .last .1 .1 .1 .1 .0) (a .args .card) (a .args .pass) (a .args .last) (λ t. omega arith) (r .refill2 .result) (r .refill2 .ensures)
@@ -39,7 +39,7 @@ same-length-3 : tie.Need-same-length-3
 same-length-3 c = search needs
 
 returns-3 : tie.Need-returns-3
-returns-3 c = 
+returns-3 c =
     let a = c .before .before .before .before .before .before .before .before in
     let r = c .before .before in
     arrives-pass (a .args .window .now) (r .to-frames .last .1 .1 .0) (a .args .card) (a .args .pass) (a .args .last) (not-false (a .args .last) (c .before .before .before .before .before .before .if1 .left)) (omega arith) (r .to-frames .result) (r .to-frames .ensures)

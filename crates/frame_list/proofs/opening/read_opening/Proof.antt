@@ -18,7 +18,7 @@ enum-known-started-2 : tie.Need-enum-known-started-2
 enum-known-started-2 c = search needs
 
 skip-blocks-requires : tie.Need-skip-blocks-requires
-skip-blocks-requires c κs = 
+skip-blocks-requires c κs =
     let s = c .before .before .before .before .before .before in
     let m = c .before .before in
     let h = subst (Starts (s .read-start .last .1 .0)) (m .started2 .given .1) (s .read-start .ensures) in
@@ -43,7 +43,7 @@ same-length-2 : tie.Need-same-length-2
 same-length-2 c = search needs
 
 returns-2 : tie.Need-returns-2
-returns-2 c = 
+returns-2 c =
     let s = c .before .before .before .before .before .before .before .before .before .before .before .before in
     let m = c .before .before .before .before .before .before .before .before in
     let k = c .before .before .before .before .before in
@@ -56,7 +56,7 @@ same-length-3 : tie.Need-same-length-3
 same-length-3 c = search needs
 
 returns-3 : tie.Need-returns-3
-returns-3 c = 
+returns-3 c =
     let s = c .before .before .before .before .before .before .before .before .before .before .before .before in
     let m = c .before .before .before .before .before .before .before .before in
     let k = c .before .before .before .before .before in

@@ -18,11 +18,11 @@ abbrev μ-loop : tie.MeasureT-loop
 
 loop-holds : tie.Need-loop-holds Inv-loop μ-loop
 unfolding bitsInRange
-loop-holds c = 
+loop-holds c =
     (record { no-base = refl; none = refl; sound = record { held-fits = omega arith; numbered = omega (arith, c .before .pre); bits = refl } }, refl)
 
 start-turn-requires : tie.Need-start-turn-requires Inv-loop μ-loop
-start-turn-requires c κs = 
+start-turn-requires c κs =
     let l = c .before in
     let s = l .loop .inv .0 .sound in
     record { held-fits = omega (arith, s .held-fits, l .loop .inv .1); numbered = omega (arith, s .numbered, l .loop .inv .1); bits = s .bits }
@@ -31,7 +31,7 @@ enum-known-turn : tie.Need-enum-known-turn Inv-loop μ-loop
 enum-known-turn c = search needs
 
 loop-less : tie.Need-loop-less Inv-loop μ-loop
-loop-less c = 
+loop-less c =
     let v = c .before .before .before .before .before in
     let l = v .before .before in
     let a = l .before .before in
@@ -39,7 +39,7 @@ loop-less c =
     starts-on (l .loop .window) (v .start-turn .last .1 .1 .0) (l .loop .card) (v .start-turn .result) (v .start-turn .ensures) (c .before .turn .given .1) .further
 
 loop-again : tie.Need-loop-again Inv-loop μ-loop
-loop-again c = 
+loop-again c =
     let v = c .before .before .before .before .before in
     let l = v .before .before in
     let a = l .before .before in
@@ -50,7 +50,7 @@ enum-known-turn-2 : tie.Need-enum-known-turn-2 Inv-loop μ-loop
 enum-known-turn-2 c = search needs
 
 same-length : tie.Need-same-length Inv-loop μ-loop
-same-length c = 
+same-length c =
     let v = c .before .before .before .before .before in
     let l = v .before .before in
     let a = l .before .before in
@@ -58,7 +58,7 @@ same-length c =
     long
 
 returns : tie.Need-returns Inv-loop μ-loop
-returns c = 
+returns c =
     let v = c .before .before .before .before .before in
     let l = v .before .before in
     let a = l .before .before in
@@ -69,7 +69,7 @@ enum-known-turn-3 : tie.Need-enum-known-turn-3 Inv-loop μ-loop
 enum-known-turn-3 c = search needs
 
 same-length-2 : tie.Need-same-length-2 Inv-loop μ-loop
-same-length-2 c = 
+same-length-2 c =
     let v = c .before .before .before .before .before in
     let l = v .before .before in
     let a = l .before .before in
@@ -77,7 +77,7 @@ same-length-2 c =
     long
 
 returns-2 : tie.Need-returns-2 Inv-loop μ-loop
-returns-2 c = 
+returns-2 c =
     let v = c .before .before .before .before .before in
     let l = v .before .before in
     let a = l .before .before in
@@ -89,7 +89,7 @@ enum-known-turn-4 : tie.Need-enum-known-turn-4 Inv-loop μ-loop
 enum-known-turn-4 c = search needs
 
 same-length-3 : tie.Need-same-length-3 Inv-loop μ-loop
-same-length-3 c = 
+same-length-3 c =
     let v = c .before .before .before .before .before in
     let l = v .before .before in
     let a = l .before .before in
@@ -97,7 +97,7 @@ same-length-3 c =
     long
 
 returns-3 : tie.Need-returns-3 Inv-loop μ-loop
-returns-3 c = 
+returns-3 c =
     let v = c .before .before .before .before .before in
     let l = v .before .before in
     let a = l .before .before in

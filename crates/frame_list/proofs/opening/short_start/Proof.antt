@@ -24,7 +24,7 @@ same-length : tie.Need-same-length
 same-length c = search needs
 
 returns-2 : tie.Need-returns-2
-returns-2 c = 
+returns-2 c =
     let a = c .before .before .before .before .before .before .before .before .before .before in
     let w = c .before .before .before .before .before in
     refills-on (a .args .window .now) (w .wait .last .1 .1 .1 .1 .0) (a .args .card) 0 Refusal.CutShort (w .wait .result) (w .wait .ensures) (c .before .turn .given .1)
@@ -33,7 +33,7 @@ same-length-2 : tie.Need-same-length-2
 same-length-2 c = search needs
 
 returns-3 : tie.Need-returns-3
-returns-3 c = 
+returns-3 c =
     let a = c .before .before .before .before .before .before .before .before .before .before in
     let w = c .before .before .before .before .before in
     refills-over (a .args .window .now) (w .wait .last .1 .1 .1 .1 .0) (a .args .card) 0 Refusal.CutShort (w .wait .result) (w .wait .ensures) (c .before .turn2 .given .1)

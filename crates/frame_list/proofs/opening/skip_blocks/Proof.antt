@@ -16,12 +16,12 @@ abbrev μ-loop : tie.MeasureT-loop
 μ-loop fd window₀ skip₀ window skip = ahead (skip .card)
 
 loop-holds : tie.Need-loop-holds Inv-loop μ-loop
-loop-holds c = 
+loop-holds c =
     let a = c .before in
     (a .pre .0, refl, begin (a .args .window .now) (a .args .start) (a .pre .1) (a .pre .2))
 
 skip-turn-requires : tie.Need-skip-turn-requires Inv-loop μ-loop
-skip-turn-requires c κs = 
+skip-turn-requires c κs =
     let l = c .before in
     let s = l .loop .inv .0 in
     record { held-fits = omega (arith, s .held-fits, l .loop .inv .1); numbered = omega (arith, s .numbered, l .loop .inv .1); bits = s .bits }
@@ -30,7 +30,7 @@ enum-known-turn : tie.Need-enum-known-turn Inv-loop μ-loop
 enum-known-turn c = search needs
 
 loop-less : tie.Need-loop-less Inv-loop μ-loop
-loop-less c = 
+loop-less c =
     let v = c .before .before .before .before .before in
     let l = v .before .before in
     let a = l .before .before in
@@ -38,7 +38,7 @@ loop-less c =
     skips-on (l .loop .window) (v .skip-turn .last .1 .1 .0) (l .loop .skip) (v .skip-turn .result) (v .skip-turn .ensures) (c .before .turn .given .1) .moves .goes .further
 
 loop-again : tie.Need-loop-again Inv-loop μ-loop
-loop-again c = 
+loop-again c =
     let v = c .before .before .before .before .before in
     let l = v .before .before in
     let a = l .before .before in
@@ -50,7 +50,7 @@ enum-known-turn-2 : tie.Need-enum-known-turn-2 Inv-loop μ-loop
 enum-known-turn-2 c = search needs
 
 same-length : tie.Need-same-length Inv-loop μ-loop
-same-length c = 
+same-length c =
     let v = c .before .before .before .before .before in
     let l = v .before .before in
     let a = l .before .before in
@@ -58,7 +58,7 @@ same-length c =
     long
 
 returns : tie.Need-returns Inv-loop μ-loop
-returns c = 
+returns c =
     let v = c .before .before .before .before .before in
     let l = v .before .before in
     let a = l .before .before in
@@ -69,7 +69,7 @@ enum-known-turn-3 : tie.Need-enum-known-turn-3 Inv-loop μ-loop
 enum-known-turn-3 c = search needs
 
 same-length-2 : tie.Need-same-length-2 Inv-loop μ-loop
-same-length-2 c = 
+same-length-2 c =
     let v = c .before .before .before .before .before in
     let l = v .before .before in
     let a = l .before .before in
@@ -77,7 +77,7 @@ same-length-2 c =
     long
 
 returns-2 : tie.Need-returns-2 Inv-loop μ-loop
-returns-2 c = 
+returns-2 c =
     let v = c .before .before .before .before .before in
     let l = v .before .before in
     let a = l .before .before in

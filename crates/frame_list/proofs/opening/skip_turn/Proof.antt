@@ -12,7 +12,7 @@ slice-reshare-prefix-pass-heads : tie.Need-slice-reshare-prefix-pass-heads
 slice-reshare-prefix-pass-heads c = search needs
 
 slice-aggregate-pass-heads : tie.Need-slice-aggregate-pass-heads
-slice-aggregate-pass-heads c = 
+slice-aggregate-pass-heads c =
     let a = c .before .before .before in
     sym (length-take-le (a .args .skip .card .held) (a .args .window .now) (a .pre .held-fits))
 
@@ -32,7 +32,7 @@ same-length : tie.Need-same-length
 same-length c = search needs
 
 returns : tie.Need-returns
-returns c = 
+returns c =
     let a = c .before .before .before .before .before .before .before .before .before .before .before in
     let h = c .before .before .before .before .before .before .before in
     let r = c .before .before in
@@ -42,7 +42,7 @@ same-length-2 : tie.Need-same-length-2
 same-length-2 c = search needs
 
 returns-2 : tie.Need-returns-2
-returns-2 c = 
+returns-2 c =
     let a = c .before .before .before .before .before .before .before in
     refused-turns (a .args .window .now) (a .args .window .now) (a .args .skip) (a .pre) (c .before .to2 .given .0 .0) (subst (Hops (take (a .args .skip .card .held) (a .args .window .now)) (a .args .skip .pass) (a .args .skip .last)) (c .before .to2 .given .1) (c .before .before .before .pass-heads .ensures))
 

@@ -11,7 +11,7 @@ slice-reshare-prefix-read-stream-start : tie.Need-slice-reshare-prefix-read-stre
 slice-reshare-prefix-read-stream-start c = search needs
 
 slice-aggregate-read-stream-start : tie.Need-slice-aggregate-read-stream-start
-slice-aggregate-read-stream-start c = 
+slice-aggregate-read-stream-start c =
     let a = c .before .before in
     sym (length-take-le (a .args .card .held) (a .args .window .now) (a .pre .held-fits))
 
@@ -37,7 +37,7 @@ same-length-2 : tie.Need-same-length-2
 same-length-2 c = search needs
 
 returns-2 : tie.Need-returns-2
-returns-2 c = 
+returns-2 c =
     let a = c .before .before .before .before .before .before .before .before .before .before in
     let r = c .before .before in
     unstarted-turns (a .args .window .now) (r .no-start .last .1 .1 .1 .0) (a .args .card) (c .before .before .before .before .before .start2 .given .0 .0) (ap startAt (sym (c .before .before .before .before .before .start2 .given .1)) ∙ c .before .before .before .before .before .before .before .read-stream-start .ensures) (r .no-start .result) (r .no-start .ensures)

@@ -28,7 +28,7 @@ rem-put-thousandths : tie.Need-rem-put-thousandths
 rem-put-thousandths c = search needs
 
 mul-put-thousandths : tie.Need-mul-put-thousandths
-mul-put-thousandths c = 
+mul-put-thousandths c =
     let a = c .before .before .before .before .before in
     omega (arith, mod-lt (a .args .samples) (let p : 0 < a .args .rate = omega arith in p), a .fits .rate)
 
