@@ -1,16 +1,18 @@
 #!/bin/sh
-# Lists the frames of a card, and says how it ended: sh frames.sh [FILE | -]. First it proves and builds what changed.
+# Lists a FLAC file (a stream header and its frames), or a card of bare frames, and says how it ended:
+# sh frames.sh [FILE | -]. First it proves and builds what changed.
 #
 # The last line starts with one word, and the exit status goes by it:
 #     0   ended:              the card ends after a frame
-#     1   stopped: empty:     something on the card is no frame; the card has no bytes
+#     1   stopped: empty:     something on the card is no frame, or no stream header; there is no frame
 #     2   unread: limit:      the card could not be read; a limit of the program ended the run
 # Status 2 is also for bad usage, a missing file, another kit, or a program that does not build.
 set -u
 usage="usage: sh frames.sh [FILE | -]
-Lists the frames of the card FILE, of standard input for '-', or of the repository's cases/card.bin.
-Status 0: the card ends after a frame. 1: something on it is refused, or it is empty. 2: it could not be read, or a limit
-of the program ended the run."
+Lists the stream header and the frames of the FLAC file FILE, or the frames of a card of bare frames; of standard input
+for '-', or of the repository's cases/card.bin.
+Status 0: it ends after a frame. 1: something on it is refused, or it has no frame. 2: it could not be read, or a limit of
+the program ended the run."
 
 fail() { # WORDS
     echo "frames.sh: $1" >&2

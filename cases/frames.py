@@ -2,8 +2,8 @@
 
     python3 frames.py
 
-What must be said of a card follows from how it was made: a line for each of its frames, and model.py's number for what
-comes after them. The last line is 'frames: N passed, M failed'.
+What must be said of a card follows from how it was made: a line for its stream header, one for each of its frames, one
+for their length, and model.py's number for what comes after them. The last line is 'frames: N passed, M failed'.
 """
 import os
 import random
@@ -13,7 +13,7 @@ import tempfile
 import time
 
 import model
-from build import constant, fixed, frame, header, verbatim
+from build import constant, frame, header, metadata, stream_header, stream_info, verbatim
 
 HERE = os.path.dirname(os.path.abspath(__file__))
 COMMAND = ["sh", os.path.join(HERE, "..", "frames.sh")]
@@ -31,12 +31,19 @@ CAUSES = {
 ROOM = [0] * (8 * 65535)
 
 
-# ---- frames: bytes, first sample, channels, bits, block size
+HEADER_CAUSES = {
+    2: "cut short",
+    4: "a forbidden block type",
+    9: "the first block is no STREAMINFO of 34 bytes with at least 4 bits a sample",
+}
+
+
+# ---- frames: bytes, first sample, channels, bits, block size, rate
 
 
 class Frame:
-    def __init__(self, data, channels, bits, size, first=0):
-        self.data, self.channels, self.bits, self.size, self.first = data, channels, bits, size, first
+    def __init__(self, data, channels, bits, size, first=0, rate=None):
+        self.data, self.channels, self.bits, self.size, self.first, self.rate = data, channels, bits, size, first, rate
 
 
 TABLE = [model.crc(bytes([b]), 16, 0x8005) for b in range(256)]
@@ -94,7 +101,7 @@ def card_frames():
     while data:
         report = model.read(data, [0] * 512, block)[0]
         assert report[0] == 0, report
-        out.append(Frame(data[: report[1]], *report[3:6], first=report[2]))
+        out.append(Frame(data[: report[1]], *report[3:6], first=report[2], rate=report[6]))
         data = data[report[1] :]
     return out
 
@@ -102,20 +109,54 @@ def card_frames():
 # ---- what must be said
 
 
-def expected(frames, tail=b"", opening="", cut=False):
-    """The lines and the status for a card of these frames, with `tail` or an incomplete frame after them."""
-    lines, at = [], 0
+def header_line(info, end):
+    return (
+        f"stream header to byte {end}: rate {info.rate}, channels {info.channels}, bits {info.bits}, samples {info.samples}, "
+        f"blocks {info.blocks[0]} to {info.blocks[1]}, frames {info.frames[0]} to {info.frames[1]} bytes, MD5 {info.md5.hex()}"
+    )
+
+
+def length_line(frames, info):
+    """The length in samples of a channel, and in seconds if a rate is known: the stream header's, or a frame's."""
+    length = sum(f.size for f in frames)
+    rates = [info.rate] if info and info.rate else [f.rate for f in frames if f.rate is not None]
+    rate = rates[0] if rates else 0
+    line = f"length: {length} samples of a channel, " + (f"{length // rate}.{length * 1000 // rate % 1000:03} seconds at {rate} hertz" if rate else "rate unknown")
+    if info and info.samples == 0:
+        line += "; STREAMINFO does not say how many"
+    elif info:
+        line += f"; STREAMINFO says {info.samples}, which {'agrees' if info.samples == length else 'differs'}"
+    return line
+
+
+def expected(frames, tail=b"", cut=False, head=b""):
+    """The lines and the status for a card of these frames, with `tail` or an incomplete frame after them, and after a
+    stream header, if there is one."""
+    lines, at, info, stream = [], len(head), None, None
+    if head:
+        info = model.stream_header(head)[2]
+        stream = info.bits, info.rate
+        lines.append(header_line(info, at))
     for f in frames:
-        lines.append(f"frame at byte {at}, length {len(f.data)}, first sample {f.first}, channels {f.channels}, bits {f.bits}, block size {f.size}")
+        rate = "unknown" if f.rate is None else f.rate
+        lines.append(f"frame at byte {at}, length {len(f.data)}, first sample {f.first}, channels {f.channels}, bits {f.bits}, rate {rate}, block size {f.size}")
         at += len(f.data)
+    if frames or head:
+        lines.append(length_line(frames, info))
     start = f"frames {len(frames)}, samples {sum(f.channels * f.size for f in frames)};"
     block = model.stream_block(frames[0].data if frames else tail)
-    number = 2 if cut else model.read(tail, ROOM, block)[0][0]
-    if number == 1:
-        last, status = (f"ended: {start} the card ends after a frame, at byte {at}", 0) if frames else (f"empty: {start} the card has no bytes", 1)
-    else:
-        last, status = f"stopped: {start} at byte {at}: {number}, {CAUSES[number]}{opening}", 1
-    return lines + [last], status
+    number = 2 if cut else model.read(tail, ROOM, block, stream)[0][0]
+    if number != 1:
+        return lines + [f"stopped: {start} at byte {at}: {number}, {CAUSES[number]}"], 1
+    if frames:
+        return lines + [f"ended: {start} the card ends after a frame, at byte {at}"], 0
+    return lines + [f"empty: {start} the card {f'ends after its stream header, at byte {at}' if head else 'has no bytes'}"], 1
+
+
+def headless(data):
+    """The same for a stream header that is refused."""
+    number = model.stream_header(data)[0]
+    return [f"stopped: frames 0, samples 0; in the stream header at byte 0: {number}, {HEADER_CAUSES[number]}"], 1
 
 
 def limited(frames):
@@ -221,24 +262,96 @@ def long_ones(small):
     yield "zeros after a header, to the window's end", header(size=16) + bytes([0x10, 0]) + bytes(3 * WINDOW), limited([])
 
 
-def block(kind, length, last=False):
-    return bytes([kind | (128 if last else 0)]) + length.to_bytes(3, "big") + bytes(length)
+# ---- stream headers
+
+
+def sized(kind, length, last=0):
+    """A metadata block of so many bytes."""
+    return metadata(kind, bytes(length), last)
 
 
 def streams(small):
-    """Stream headers, and where bare frames start after them."""
-    said = ": a stream header (fLaC), which is not read yet"
-    for name, blocks in {
-        "one block": [block(0, 34, True)],
-        "blocks of all sizes": [block(0, 34), block(4, 0), block(1, 8192), block(6, 70000, True)],
-        "blocks to the window's end": [block(0, 34), block(1, WINDOW - 4 - 38 - 4, True)],
-    }.items():
-        head = b"fLaC" + b"".join(blocks)
-        yield f"a stream header, {name}", head + joined(small), expected([], head[:4], f"{said}; bare frames start at byte {len(head)}")
-    far = b"fLaC" + block(0, 34) + block(1, WINDOW, True) + joined(small)
-    for name, card in {"past the window": far, "cut short": far[:50], "cut in a block's head": far[:44], "and no more": b"fLaC"}.items():
-        yield f"a stream header, {name}", card, expected([], b"fLaC", said)
+    """Stream headers of all lengths, before frames that need nothing of them."""
+    info = dict(blocks=(256, 256), frames=(436, 521), rate=48000, channels=2, bits=16, samples=1536, md5=bytes(range(0xF0, 0x100)))
+    full = b"fLaC" + metadata(0, stream_info(**info))
+    heads = {
+        "of 42 bytes": stream_header(**info),
+        "with padding": full + sized(1, 8192, 1),
+        "with blocks of all sizes": full + sized(4, 0) + sized(1, 8192) + sized(6, 70000) + sized(126, 0) + sized(2, 1, 1),
+        "with many blocks of 0 bytes": full + sized(3, 0) * 3000 + sized(3, 0, 1),
+        "to the window's end": full + sized(1, WINDOW - 4 - 38 - 4, 1),
+        "to the byte before the window's end": full + sized(1, WINDOW - 4 - 38 - 5, 1),
+        "past the window's end": full + sized(1, WINDOW - 4 - 38 - 3, 1),
+        "with a head across the window's end": full + sized(1, WINDOW - 4 - 38 - 6) + sized(1, 5, 1),
+        "with a block of 3 MiB": full + sized(6, 3 << 20, 1),
+        "with two of the longest blocks": full + sized(6, (1 << 24) - 1) + sized(6, (1 << 24) - 1) + sized(1, 0, 1),
+        "with a second STREAMINFO": full + metadata(0, stream_info(bits=24), 1),
+    }
+    for name, head in heads.items():
+        yield f"a stream header {name}", head + joined(small), expected(small, head=head)
+    head = heads["of 42 bytes"]
+    yield "a stream header and no frame", head, expected([], head=head)
+    yield "a stream header and a byte", head + b"\xff", expected([], b"\xff", head=head)
+    yield "a stream header and no sync code", head + b"fLaC", expected([], b"fLaC", head=head)
+    yield "a stream header and a frame cut short", head + joined(small)[:-1], expected(small[:-1], small[-1].data[:-1], head=head)
+    long = small * 1500
+    yield "a stream header and frames longer than the window", head + joined(long), expected(long, head=head)
+    padded = heads["with padding"]
+    for n in range(60):
+        short = padded[:n]
+        yield f"a stream header cut to {n} bytes", short, headless(short) if n >= 4 else expected([], short)
+    yield "a long stream header cut short", heads["with a block of 3 MiB"][:-1], headless(heads["with a block of 3 MiB"][:-1])
     yield "fLaC after a frame", joined(small[:1], b"fLaC"), expected(small[:1], b"fLaC")
+    yield from refused_headers(full, small)
+    yield from told(small, info)
+
+
+def refused_headers(full, small):
+    first = stream_info(channels=2)
+    for name, data in {
+        "a forbidden first block": b"fLaC" + metadata(127, first, 1),
+        "a forbidden last block": full + metadata(127, b"", 1),
+        "a forbidden block between others": full + sized(1, 100) + metadata(127, b"ab") + sized(1, 100, 1),
+        "a forbidden block of which one byte is there": full + b"\xff",
+        "a forbidden block after 3 MiB": full + sized(6, 3 << 20) + metadata(127, b"", 1),
+        "padding first": b"fLaC" + sized(1, 34) + metadata(0, first, 1),
+        "STREAMINFO of 33 bytes": b"fLaC" + metadata(0, first[:33], 1),
+        "STREAMINFO of 35 bytes": b"fLaC" + metadata(0, first + b"\x00", 1),
+        "STREAMINFO of no bytes": b"fLaC" + metadata(0, b"", 1),
+        "3 bits": b"fLaC" + metadata(0, stream_info(bits=3), 1),
+        "1 bit": b"fLaC" + metadata(0, stream_info(bits=1), 1),
+    }.items():
+        yield f"a stream header, {name}", data, headless(data)
+        yield f"a stream header, {name}, before frames", data + joined(small), headless(data + joined(small))
+
+
+def leaving(bits, code, rate, size=64, number=0):
+    """A frame with `bits`, whose header leaves them to the stream, and the rate too if its code is 0."""
+    data = frame(header(size=size, bits=0, rate=code, number=number), [constant(number - 3, bits)])
+    return Frame(data, 1, bits, size, first=size * number, rate=rate)
+
+
+def told(small, info):
+    """What frames leave to the stream header, and what it says of their length."""
+    for bits in (8, 13, 24):
+        frames = [leaving(bits, 0, 32000), leaving(bits, 9, 44100, number=1), leaving(bits, 12, 44000, number=2)]
+        head = stream_header(bits=bits, rate=32000, samples=192)
+        yield f"{bits} bits of the stream header", head + joined(frames), expected(frames, head=head)
+        yield f"{bits} bits of no stream header", joined(frames), expected([], joined(frames))
+    for bits in (25, 32):
+        head, data = stream_header(bits=bits, rate=32000), leaving(bits, 0, 32000).data
+        yield f"{bits} bits of the stream header", head + data, expected([], data, head=head)
+    other = stream_header(bits=24, channels=2)
+    yield "bits that are not the stream header's", other + joined(small), expected([], joined(small), head=other)
+    for name, words in {"agrees": {}, "differs": {"samples": 1537}, "is unknown": {"samples": 0}, "is the largest": {"samples": (1 << 36) - 1}}.items():
+        head = stream_header(**{**info, **words})
+        yield f"a length that {name}", head + joined(small), expected(small, head=head)
+    for rate in (0, 1, 7, 44100, 0xFFFFF):
+        frames = [leaving(16, 0, rate)]
+        head = stream_header(rate=rate, samples=64)
+        yield f"a rate of {rate}", head + joined(frames), expected(frames, head=head)
+    own = [leaving(16, 0, 0), leaving(16, 10, 48000, number=1)]
+    yield "a rate of 0 and a frame's own", stream_header(rate=0) + joined(own), expected(own, head=stream_header(rate=0))
 
 
 # ---- the runs
@@ -285,7 +398,10 @@ def pipes(tally, small, longer):
     tally.hold("a pipe with nothing in it", run(["-"], [])[0], expected([]))
     tally.hold("a pipe with pauses", run(["-"], pieces(data, rng, 100), 0.01)[0], expected(small))
     tally.hold("a pipe with pauses, cut short", run(["-"], pieces(data[:-1], rng, 100), 0.01)[0], expected(small[:-1], small[-1].data[:-1]))
-    tally.hold("a stream header by pieces", run(["-"], [b"f", b"LaC\x80\x00", b"\x00\x02ab"], 0.05)[0], expected([], b"fL", ": a stream header (fLaC), which is not read yet; bare frames start at byte 10"))
+    head = stream_header((1, bytes(300)), (6, bytes(100000)), channels=2)
+    tally.hold("a stream header by pieces", run(["-"], pieces(head[:500] + b"", rng, 40), 0.01)[0], headless(head[:500]))
+    tally.hold("a stream header and frames by pieces", run(["-"], pieces(head + data, rng, 5000), 0.01)[0], expected(small, head=head))
+    tally.hold("a mark by pieces", run(["-"], [b"f", b"La"], 0.05)[0], expected([], b"fLa"))
     tally.hold("a pipe with a frame longer than the window", run(["-"], [longer])[0], limited([]))
 
 
@@ -309,8 +425,20 @@ def words(tally, folder, small):
         tally.hold(name, (["usage: "] if lines and lines[0].startswith("usage: ") else lines, got), (["usage: "] if status == 0 else [], status))
         tally.hold(name + ", in words", ([err[: len(word)]], 0), ([word], 0))
     program = ["sh", os.path.join(HERE, "..", "run.sh"), "frame_list"]
-    for name, given, line in [("a directory", [folder], f"{unread} 21"), ("a missing file", [card + "x"], "unread: frames 0, samples 0; the card could not be opened: error 2"), ("two names", [card, card], "unread: frames 0, samples 0; more than one card is named")]:
-        tally.hold(f"the program, {name}", (subprocess.run(program + given, stdout=subprocess.PIPE).stdout.decode().splitlines(), 0), ([line], 0))
+    nothing = "unread: frames 0, samples 0;"
+    for name, given, line in [
+        ("a directory", [folder], f"{unread} 21, it is a directory"),
+        ("a missing file", [card + "x"], f"{nothing} the card could not be opened: error 2, there is no such file"),
+        ("two names", [card, card], f"{nothing} more than one card is named"),
+        ("an unknown argument", ["-x"], f"{nothing} unknown argument; --help lists those that there are"),
+        ("a longer one", ["--helpx"], f"{nothing} unknown argument; --help lists those that there are"),
+        ("help", ["--help"], "usage: frame_list [FILE | - | --help]"),
+        ("an empty name", [""], f"{nothing} the card could not be opened: error 2, there is no such file"),
+    ]:
+        lines = subprocess.run(program + given, stdout=subprocess.PIPE, stdin=subprocess.DEVNULL).stdout.decode().splitlines()
+        tally.hold(f"the program, {name}", (lines[:1], 0), ([line], 0))
+    lines = subprocess.run(program + ["-"], stdout=subprocess.PIPE, input=joined(small)).stdout.decode().splitlines()
+    tally.hold("the program, standard input", (lines, 0), (expected(small)[0], 0))
 
 
 def main():

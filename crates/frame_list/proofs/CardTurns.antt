@@ -10,6 +10,7 @@ use Rattle.error.specs.declared.Refusal.the-variants.{NothingLeft, CutShort, No
 use Rattle.error.specs.declared.Need.{Need}
 use Rattle.error.specs.Numbers.{numberOf}
 use Rattle.error.specs.Needs.{needsOf}
+use Rattle.rfc9639.specs.Stream.{bitsInRange}
 use Rattle.rfc9639.specs.FrameByFrame.{Verdict, undecided, refuse, verdictOf}
 use Rattle.frame_list.specs.declared.window.Rest.{Rest}
 use Rattle.frame_list.specs.declared.window.Filled.{Filled}
@@ -21,8 +22,8 @@ use Rattle.frame_list.specs.declared.Last.{Last}
 use Rattle.frame_list.specs.declared.Turn.{Turn}
 use Rattle.frame_list.specs.Window.{Enough, Fills}
 use Rattle.frame_list.specs.Listing.{Listing, listed, Lists}
-use Rattle.frame_list.specs.CardProgress.{Sound, noFrames, pending, ahead, Stays, Continues, Wanting, Closes, Refills, Carries, ending, Unfinished, Accounts, Stops, Turns, Runs}
-use Rattle.frame_list.proofs.FirstFrame.{listed-goes-on, listed-stands}
+use Rattle.frame_list.specs.CardProgress.{Sound, pending, ahead, Stays, Continues, Wanting, Closes, Refills, Carries, ending, Unfinished, Accounts, Stops, Turns, Runs}
+use Rattle.frame_list.proofs.FirstFrame.{listed-stream, listed-goes-on, listed-stands}
 
 -- ---- the window's bytes
 
@@ -41,7 +42,7 @@ module _ (was : List ℕ) (card : Card) (place : ℕ) (e : Refusal) (sound : Sou
         least = omega (arith, s .1);
         next-base = omega (arith, s .0);
         same-totals = s .2;
-        sound = record { held-fits = omega (arith, s .1, sound .held-fits); numbered = omega (arith, s .0, sound .numbered) };
+        sound = record { held-fits = omega (arith, s .1, sound .held-fits); numbered = omega (arith, s .0, sound .numbered); bits = ap (λ (t : Totals). bitsInRange (t .stream)) (s .2) ∙ sound .bits };
         further = omega (arith, s .0, s .1, s .3, one-pending, sound .held-fits, sound .numbered);
       }
 
@@ -60,9 +61,38 @@ module _ (was : List ℕ) (card : Card) (place : ℕ) (e : Refusal) (sound : Sou
       least = fills .least;
       next-base = refl;
       same-totals = refl;
-      sound = record { held-fits = omega (arith, fills .most, long); numbered = wide };
+      sound = record { held-fits = omega (arith, fills .most, long); numbered = wide; bits = sound .bits };
       further = omega (arith, less (filled .rest) (fills .enough), one-pending);
     }
+
+-- by the turn that it gives
+module _ (was left : List ℕ) (card : Card) (place : ℕ) (e : Refusal) (turn : Turn) (h : Refills was card place e turn left) where
+  pub refills-on : {next : Card} → turn ≡ Turn.On next → Continues was card place next left
+  refills-on is = subst (λ (t : Turn). Refills was card place e t left) is h
+
+  pub refills-over : {end : Last} → turn ≡ Turn.Over end → Closes card place e end
+  refills-over is = subst (λ (t : Turn). Refills was card place e t left) is h
+
+drop-of-take : (k m : ℕ) (l : List ℕ) → k ≤ m → k ≤ length l → drop k (take m l) ≡ take (m - k) (drop k l)
+drop-of-take k m l h g =
+    let e : m ≡ k + (m - k) = omega arith in
+    ap (λ n. drop k (take n l)) e ∙ ap (drop k) (take-add k (m - k) l) ∙ drop-at (take k l) (take (m - k) (drop k l)) k (length-take-le k l g)
+
+-- the bytes held from a place on are where the window's bytes from its front on are kept
+pub window-kept : (was left : List ℕ) (held place : ℕ) → held ≤ length was → place ≤ held → take (held - place) left ≡ take (held - place) (drop place was)
+    → drop place (take held was) ≡ take (held - place) left
+window-kept was left held place fits inside kept = drop-of-take place held was inside (omega arith) ∙ sym kept
+
+module _ (was : List ℕ) (card : Card) (place : ℕ) (next : Card) (left : List ℕ) (c : Continues was card place next left) where
+  -- what a refill read
+  abbrev pub fresh : List ℕ
+  fresh = drop (card .held - place) (take (next .held) left)
+
+  pub window-joined : card .held ≤ length was → place ≤ card .held → drop place (take (card .held) was) ++ fresh ≡ take (next .held) left
+  window-joined fits inside =
+      ap (λ (l : List ℕ). l ++ fresh)
+      (window-kept was left (card .held) place fits inside (c .kept) ∙ sym (take-take (card .held - place) (next .held) left (c .least)))
+      ∙ take-append-drop (card .held - place) (take (next .held) left)
 
 -- ---- what a refusal asks of the caller, as a verdict
 
@@ -96,11 +126,6 @@ refuse-decided e n is k u = let r = verdict-needs e ∙ ap verdictFor is ∙ k i
 
 -- ---- what is listed
 
-drop-of-take : (k m : ℕ) (l : List ℕ) → k ≤ m → k ≤ length l → drop k (take m l) ≡ take (m - k) (drop k l)
-drop-of-take k m l h g =
-    let e : m ≡ k + (m - k) = omega arith in
-    ap (λ n. drop k (take n l)) e ∙ ap (drop k) (take-add k (m - k) l) ∙ drop-at (take k l) (take (m - k) (drop k l)) k (length-take-le k l g)
-
 module _ (room : ℕ) (was : List ℕ) (card : Card) (r : Listed) (sound : Sound card (length was)) (lists : Lists (take (card .held) was) (card .base) (card .totals) room r) where
   abbrev w : List ℕ
   w = take (card .held) was
@@ -109,34 +134,35 @@ module _ (room : ℕ) (was : List ℕ) (card : Card) (r : Listed) (sound : Sound
   abbrev read : Card
   read = record { base = card .base; held = card .held; rest = card .rest; totals = r .totals }
 
+  pub read-sound : Sound read (length was)
+  read-sound = record {
+    held-fits = sound .held-fits;
+    numbered = sound .numbered;
+    bits = ap bitsInRange (listed-stream room (card .base) (card .totals) w (r .place) (sound .bits) (lists .all)) ∙ sound .bits;
+  }
+
   pub listed-place-held : r .place ≤ card .held
   listed-place-held = omega (arith, lists .place-fits, length-take-le (card .held) was (sound .held-fits))
 
   module _ (wait : needsOf (r .refusal) ≡ Need.Wait) where
     listed-from-place : (more : List ℕ) → listed room (card .base) (card .totals) (w ++ more) ≡ listed room (card .base + r .place) (r .totals) (drop (r .place) w ++ more)
-    listed-from-place = listed-goes-on room (card .base) (card .totals) w (r .place) (lists .all) (wait-undecided (r .refusal) wait)
+    listed-from-place = listed-goes-on room (card .base) (card .totals) w (r .place) (sound .bits) (lists .all) (wait-undecided (r .refusal) wait)
 
     module _ (next : Card) (left : List ℕ) (long : length left ≡ length was) (c : Continues was read (r .place) next left) where
-      abbrev keptLength : ℕ
-      keptLength = card .held - r .place
-
       abbrev added : List ℕ
-      added = drop keptLength (take (next .held) left)
+      added = fresh was read (r .place) next left c
 
-      window-joined : drop (r .place) w ++ added ≡ take (next .held) left
-      window-joined =
-          ap (λ (l : List ℕ). l ++ added)
-          (drop-of-take (r .place) (card .held) was listed-place-held (omega (arith, listed-place-held, sound .held-fits)) ∙ sym (c .kept) ∙ sym (take-take keptLength (next .held) left (c .least)))
-          ∙ take-append-drop keptLength (take (next .held) left)
+      joined : drop (r .place) w ++ added ≡ take (next .held) left
+      joined = window-joined was read (r .place) next left c (sound .held-fits) listed-place-held
 
       carries : Carries room was card next left
       carries = record {
         added = added;
         long =
-            omega (arith, c .next-base, c .least, listed-place-held, length-drop keptLength (take (next .held) left), length-take-le (next .held) left (omega (arith, c .sound .held-fits)));
+            omega (arith, c .next-base, c .least, listed-place-held, length-drop (card .held - r .place) (take (next .held) left), length-take-le (next .held) left (omega (arith, c .sound .held-fits)));
         same = λ more.
             listed-from-place (added ++ more)
-            ∙ ap (λ (l : List ℕ). listed room (card .base + r .place) (r .totals) l) (sym (append-assoc (drop (r .place) w) added more) ∙ ap (λ (l : List ℕ). l ++ more) window-joined)
+            ∙ ap (λ (l : List ℕ). listed room (card .base + r .place) (r .totals) l) (sym (append-assoc (drop (r .place) w) added more) ∙ ap (λ (l : List ℕ). l ++ more) joined)
             ∙ ap₂ (λ b (t : Totals). listed room b t (take (next .held) left ++ more)) (sym (c .next-base)) (sym (c .same-totals));
         sound = c .sound;
         further = c .further;
@@ -177,10 +203,10 @@ module _ (room : ℕ) (was : List ℕ) (card : Card) (r : Listed) (sound : Sound
     same-base = refl;
     same-held = refl;
     place-fits = listed-place-held;
-    accounts = listed-stands room (card .base) (card .totals) w (r .place) (lists .all) (refuse-decided (r .refusal) n is k);
+    accounts = listed-stands room (card .base) (card .totals) w (r .place) (sound .bits) (lists .all) (refuse-decided (r .refusal) n is k);
   }
 
--- ---- from the card's first byte
+-- ---- from the start
 
 module _ (room room′ : ℕ) (e : room ≡ room′) (was : List ℕ) (card : Card) where
   pub turns-on : (next : Card) (left : List ℕ) (r : Turn) → r ≡ Turn.On next → Turns room was card r left → Carries room′ was card next left
@@ -189,45 +215,57 @@ module _ (room room′ : ℕ) (e : room ≡ room′) (was : List ℕ) (card : Ca
   pub turns-over : (last : Last) (left : List ℕ) (r : Turn) → r ≡ Turn.Over last → Turns room was card r left → Stops room′ was card last
   turns-over last left r is h = subst (λ n. Stops n was card last) e (subst (λ (t : Turn). Turns room was card t left) is h)
 
--- the invariant: listing the bytes read so far is listing the window, with the totals before it
-pub record SoFar (room : ℕ) (w : List ℕ) (card : Card) : Type 0 where
-  pub seen : List ℕ
-  pub long : length seen ≡ card .base + card .held
-  pub same : (more : List ℕ)
-      → listed room 0 (noFrames) (seen ++ more) ≡ listed room (card .base) (card .totals) (take (card .held) w ++ more)
+-- the invariant: listing the bytes read so far, after a start whose window held the first of them, is listing the window,
+-- with the totals before it
+module _ (room : ℕ) (start : Card) (first : List ℕ) where
+  pub record SoFar (w : List ℕ) (card : Card) : Type 0 where
+    pub added : List ℕ
+    pub long : start .base + length (first ++ added) ≡ card .base + card .held
+    pub same : (more : List ℕ)
+        → listed room (start .base) (start .totals) ((first ++ added) ++ more) ≡ listed room (card .base) (card .totals) (take (card .held) w ++ more)
 
-pub begin : (room : ℕ) (w : List ℕ) → SoFar room w (record { base = 0; held = 0; rest = Rest.More; totals = noFrames })
-begin room w = record { seen = []; long = refl; same = λ more. refl }
+  module _ (w : List ℕ) (card : Card) (far : SoFar w card) where
+    abbrev seen : List ℕ
+    seen = first ++ far .added
 
-module _ (room : ℕ) (w : List ℕ) (card : Card) (far : SoFar room w card) where
-  -- a turn that goes on keeps it
-  pub soFar-on : (next : Card) (left : List ℕ) → Carries room w card next left → SoFar room left next
-  soFar-on next left c = record {
-    seen = far .seen ++ c .added;
-    long = omega (arith, length-append (far .seen) (c .added), far .long, c .long);
-    same = λ more.
-        ap (listed room 0 (noFrames)) (append-assoc (far .seen) (c .added) more) ∙ far .same (c .added ++ more) ∙ c .same more;
-  }
+    -- a turn that goes on keeps it
+    pub soFar-on : (next : Card) (left : List ℕ) → Carries room w card next left → SoFar left next
+    soFar-on next left c =
+        let e : first ++ (far .added ++ c .added) ≡ seen ++ c .added = sym (append-assoc first (far .added) (c .added)) in
+        record {
+          added = far .added ++ c .added;
+          long = omega (arith, ap length e, length-append seen (c .added), far .long, c .long);
+          same = λ more.
+              ap (λ (s : List ℕ). listed room (start .base) (start .totals) (s ++ more)) e
+              ∙ ap (listed room (start .base) (start .totals)) (append-assoc seen (c .added) more) ∙ far .same (c .added ++ more) ∙ c .same more;
+        }
 
-  soFar-end : listed room 0 (noFrames) (far .seen) ≡ listed room (card .base) (card .totals) (take (card .held) w)
-  soFar-end =
-      ap (listed room 0 (noFrames)) (sym (append-nil (far .seen))) ∙ far .same []
-      ∙ ap (listed room (card .base) (card .totals)) (append-nil (take (card .held) w))
+    soFar-end : listed room (start .base) (start .totals) seen ≡ listed room (card .base) (card .totals) (take (card .held) w)
+    soFar-end =
+        ap (listed room (start .base) (start .totals)) (sym (append-nil seen)) ∙ far .same []
+        ∙ ap (listed room (card .base) (card .totals)) (append-nil (take (card .held) w))
 
-  all-accounts : (last : Last) (how : How) → Accounts room (card .base) (card .totals) (take (card .held) w) last how
-      → Accounts room 0 (noFrames) (far .seen) last how
-  all-accounts last (How.Ended x) h = soFar-end ∙ h
-  all-accounts last (How.Refused x) h = λ more. far .same more ∙ h more
-  all-accounts last (How.Unread error) h = record { rest = h .rest; same = λ more. far .same more ∙ h .same more }
-  all-accounts last How.TooLong h = record { rest = h .rest; same = λ more. far .same more ∙ h .same more }
-  all-accounts last How.TooFar h = record { rest = h .rest; same = λ more. far .same more ∙ h .same more }
+    all-accounts : (last : Last) (how : How) → Accounts room (card .base) (card .totals) (take (card .held) w) last how
+        → Accounts room (start .base) (start .totals) seen last how
+    all-accounts last (How.Ended x) h = soFar-end ∙ h
+    all-accounts last (How.Refused x) h = λ more. far .same more ∙ h more
+    all-accounts last (How.Unread error) h = record { rest = h .rest; same = λ more. far .same more ∙ h .same more }
+    all-accounts last How.TooLong h = record { rest = h .rest; same = λ more. far .same more ∙ h .same more }
+    all-accounts last How.TooFar h = record { rest = h .rest; same = λ more. far .same more ∙ h .same more }
 
-  -- a turn that ends the run gives the promise of the whole run
-  pub soFar-runs : (width : ℕ) → Sound card width → (last : Last) → Stops room w card last → Runs room last width
-  soFar-runs width sound last s = record {
-    seen = far .seen;
-    long = omega (arith, far .long, s .same-base, s .same-held);
-    accounts = all-accounts last (last .how) (s .accounts);
-    sound = record { held-fits = omega (arith, s .same-held, sound .held-fits); numbered = omega (arith, s .same-base, sound .numbered) };
-    place-fits = omega (arith, s .same-held, s .place-fits);
-  }
+    -- a turn that ends the run gives the promise of the whole run
+    pub soFar-runs : (width : ℕ) → Sound card width → (last : Last) → Stops room w card last → Runs room start first last
+    soFar-runs width sound last s = record {
+      added = far .added;
+      long = omega (arith, far .long, s .same-base, s .same-held);
+      accounts = all-accounts last (last .how) (s .accounts);
+      numbered = omega (arith, s .same-base, s .same-held, sound .held-fits, sound .numbered);
+      place-fits = omega (arith, s .same-held, s .place-fits);
+    }
+
+pub begin : (room : ℕ) (start : Card) (w : List ℕ) → start .held ≤ length w → SoFar room start (take (start .held) w) w start
+begin room start w fits = record {
+  added = [];
+  long = omega (arith, ap length (append-nil (take (start .held) w)), length-take-le (start .held) w fits);
+  same = λ more. ap (λ (s : List ℕ). listed room (start .base) (start .totals) (s ++ more)) (append-nil (take (start .held) w));
+}

@@ -2,7 +2,7 @@
 -- follows, also where that size was found in this window. Assumes nothing.
 use Prim.Native.Nat.{ℕ, _+_, _≤_}
 use native.Mathlib.Omega.{arith}
-use mathlib.Core.Bool.{Bool, true, false}
+use mathlib.Core.Bool.{Bool, true, false, _&&_}
 use mathlib.Core.Path.{_≡_, refl, ap, ap₂, sym, _∙_, subst}
 use mathlib.Core.List.{List, [], _∷_, _++_}
 use lib.Dec.{eqb}
@@ -10,12 +10,14 @@ use lib.ListN.{drop}
 use Rattle.reading.specs.Readers.{if_then_else_}
 use Rattle.reading.specs.declared.Place.{Place}
 use Rattle.reading.specs.Places.{At, gotAt, refusedAt, shortAt, runAt, placeOf}
+use Rattle.reading.proofs.ByteRuns.{and-fst}
 use Rattle.reading.proofs.Postconditions.{Meets, holds-at}
 use Rattle.rfc9639.specs.declared.FrameHeader.{FrameHeader}
 use Rattle.rfc9639.specs.declared.Settings.{Settings}
 use Rattle.rfc9639.specs.declared.StreamBlock.{StreamBlock}
+use Rattle.rfc9639.specs.declared.StreamRecord.{StreamRecord}
 use Rattle.rfc9639.specs.Header.{header}
-use Rattle.rfc9639.specs.Stream.{possible}
+use Rattle.rfc9639.specs.Stream.{inRange, bitsInRange, possible}
 use Rattle.rfc9639.specs.Read.{refusal, Result, untouched, cutShort, result}
 use Rattle.rfc9639.specs.FrameByFrame.{Verdict, accept, undecided, refuse, verdictOf, verdict, streamSettings}
 use Rattle.demands.proofs.Headers.{Early, Sound, header-holds}
@@ -24,33 +26,39 @@ use Rattle.demands.proofs.ResultCases as cases
 use Rattle.demands.proofs.FrameByFrame.{accept-zero, undecided-two, lawful}
 use Rattle.demands.proofs.StreamSettings.{header-settings, refused-settings, short-settings, stream-possible, settings-stay}
 use Rattle.frame_list.specs.declared.Totals.{Totals}
-use Rattle.frame_list.specs.Listing.{withFrame, blockFor, settled, Listing, listing, listedAs, listed}
+use Rattle.frame_list.specs.Listing.{withFrame, blockFor, withBlock, settled, settingsFor, Listing, listing, listedAs, listed}
 use Rattle.frame_list.proofs.ListedFrames.{other-shown, goes-on-from, list-stands}
 
--- listing frames keeps the stream's block
-listing-block : (place : ℕ) (t : Totals) (qs : List Result) → listing place t qs .totals .block ≡ t .block
+-- listing frames keeps the settings of the stream
+abbrev Same : Totals → Totals → Type 0
+Same u t = (u .block ≡ t .block) × (u .stream ≡ t .stream)
+
+listing-same : (place : ℕ) (t : Totals) (qs : List Result) → Same (listing place t qs .totals) t
 unfolding listing
-listing-block place t [] = refl
-listing-block place t (q ∷ qs) = go (eqb (q .report .number) 0) (listing-block _ _ qs)
+listing-same place t [] = (refl, refl)
+listing-same place t (q ∷ qs) = go (eqb (q .report .number) 0) (listing-same _ _ qs)
   where
     after : Totals
-    after = withFrame t (q .report .channels) (q .report .size)
+    after = withFrame t (q .report .channels) (q .report .size) (q .report .rate)
 
-    go : (b : Bool) → listing (place + q .report .consumed) after qs .totals .block ≡ t .block
-        → _≡_ {A = StreamBlock} ((if b then listing (place + q .report .consumed) after qs else record { place = place; totals = t; number = q .report .number }) .totals .block) (t .block)
+    go : (b : Bool) → Same (listing (place + q .report .consumed) after qs .totals) t
+        → Same ((if b then listing (place + q .report .consumed) after qs else record { place = place; totals = t; number = q .report .number }) .totals) t
     go true e = e
-    go false e = refl
+    go false e = (refl, refl)
 
 module _ (room place : ℕ) (t : Totals) (w : List ℕ) (k : ℕ) {number : ℕ} {u : Totals}
-    (is : listed room place t w ≡ record { place = place + k; totals = u; number = number }) where
+    (bits : bitsInRange (t .stream) ≡ true) (is : listed room place t w ≡ record { place = place + k; totals = u; number = number }) where
   abbrev set : Settings
-  set = record { block = blockFor (t .block) w }
+  set = settingsFor t w
 
   abbrev one : List ℕ → Result
   one = result (record { given = set; room = room })
 
-  block-kept : u .block ≡ blockFor (t .block) w
-  block-kept = sym (ap (λ (l : Listing). l .totals .block) is) ∙ listing-block place (settled t w) _
+  kept : Same u (settled t w)
+  kept = subst (λ (l : Listing). Same (l .totals) (settled t w)) is (listing-same place (settled t w) _)
+
+  pub listed-stream : u .stream ≡ t .stream
+  listed-stream = kept .1
 
   -- the header is not decided, and the stream's block was not known before
   Waits : Type 0
@@ -60,7 +68,7 @@ module _ (room place : ℕ) (t : Totals) (w : List ℕ) (k : ℕ) {number : ℕ}
   longer : (Waits → ⊥) → (more : List ℕ) → listed room place t (w ++ more) ≡ listedAs set room place (settled t w) (w ++ more)
   unfolding Waits
   longer known more =
-      ap (λ (b : StreamBlock). listedAs (record { block = b }) room place (record { frames = t .frames; samples = t .samples; block = b }) (w ++ more)) (go (t .block) refl)
+      ap (λ (b : StreamBlock). listedAs (record { block = b; stream = t .stream }) room place (withBlock t b) (w ++ more)) (go (t .block) refl)
     where
       go : (b : StreamBlock) → t .block ≡ b → blockFor b (w ++ more) ≡ blockFor b w
       go (StreamBlock.Known n) e = refl
@@ -69,10 +77,11 @@ module _ (room place : ℕ) (t : Totals) (w : List ℕ) (k : ℕ) {number : ℕ}
   -- once the stream's block is known, it stays
   settles : {n : ℕ} → blockFor (t .block) w ≡ StreamBlock.Known n → (at : ℕ) (s : List ℕ) → listedAs set room at u s ≡ listed room at u s
   settles e at s =
-      let b = block-kept ∙ e in
+      let b = kept .0 ∙ e in
       let same : blockFor (t .block) w ≡ blockFor (u .block) s = e ∙ sym (ap (λ (x : StreamBlock). blockFor x s) b) in
-      let own : u .block ≡ blockFor (u .block) s = block-kept ∙ same in
-      ap₂ (λ (x y : StreamBlock). listedAs (record { block = x }) room at (record { frames = u .frames; samples = u .samples; block = y }) s) same own
+      let own : u .block ≡ blockFor (u .block) s = kept .0 ∙ same in
+      ap₂ (λ (x : StreamBlock) (y : StreamRecord). listedAs (record { block = x; stream = y }) room at u s) same (sym (kept .1))
+      ∙ ap (λ (y : StreamBlock). listedAs (settingsFor u s) room at (withBlock u y) s) own
 
   -- a first answer that is no frame is all that is listed
   refused-first : (verdict (one w) ≡ accept → ⊥)
@@ -80,11 +89,12 @@ module _ (room place : ℕ) (t : Totals) (w : List ℕ) (k : ℕ) {number : ℕ}
   refused-first none = sym (other-shown (lawful (record { given = set; room = room })) place (settled t w) w none) ∙ is
 
   module _ (unknown : t .block ≡ StreamBlock.Unknown) where
-    set-is : set ≡ streamSettings w
-    set-is = ap (λ (b : StreamBlock). record { block = blockFor b w }) unknown
+    block-is : set .block ≡ streamSettings w .block
+    block-is = ap (λ (b : StreamBlock). blockFor b w) unknown
 
     ok : possible set ≡ true
-    ok = ap possible set-is ∙ stream-possible w
+    unfolding possible
+    ok = ap₂ (λ (x y : Bool). x && y) (ap inRange block-is ∙ and-fst (inRange (streamSettings w .block)) _ (stream-possible w)) bits
 
     -- without a header the first answer is no frame
     module _ {n : ℕ} (r : result (record { given = set; room = room }) w ≡ untouched n) (some : n ≡ 0 → ⊥) where
@@ -128,7 +138,7 @@ module _ (room place : ℕ) (t : Totals) (w : List ℕ) (k : ℕ) {number : ℕ}
       short-goes-on : (more : List ℕ) → listed room place t (w ++ more) ≡ listed room (place + k) u (drop k w ++ more)
       short-goes-on more =
           let z = first-place short (cut-number w .0) in
-          let same : t ≡ u = ap (λ (b : StreamBlock). record { frames = t .frames; samples = t .samples; block = b }) (unknown ∙ sym (ap (λ (x : Settings). x .block) (set-is ∙ short-settings w e))) ∙ sym (first-totals short (cut-number w .0)) in
+          let same : t ≡ u = ap (withBlock t) (unknown ∙ sym (block-is ∙ ap (λ (x : Settings). x .block) (short-settings w e))) ∙ sym (first-totals short (cut-number w .0)) in
           let here : place ≡ place + 0 = omega arith in
           ap (λ n. listed room n t (w ++ more)) here ∙ ap₂ (λ (v : Totals) n. listed room (place + n) v (drop n w ++ more)) same (sym z)
 

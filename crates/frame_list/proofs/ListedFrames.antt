@@ -26,7 +26,7 @@ use Rattle.frame_list.specs.Listing.{withFrame, Listing, listing, listed
 
 module _ (place : ℕ) (t : Totals) (q : Result) (qs : List Result) where
   frame-listing : q .report .number ≡ 0
-      → listing place t (q ∷ qs) ≡ listing (place + q .report .consumed) (withFrame t (q .report .channels) (q .report .size)) qs
+      → listing place t (q ∷ qs) ≡ listing (place + q .report .consumed) (withFrame t (q .report .channels) (q .report .size) (q .report .rate)) qs
   unfolding listing
   frame-listing z = rw (eq-eqb (q .report .number) 0 z)
 
@@ -42,7 +42,7 @@ module _ {one : List ℕ → Result} (law : Lawful one) where
 
   pub frame-shown : (place : ℕ) (t : Totals) (s : List ℕ) → verdict (one s) ≡ accept
       → shown place t s
-      ≡ shown (place + one s .report .consumed) (withFrame t (one s .report .channels) (one s .report .size)) (drop (one s .report .consumed) s)
+      ≡ shown (place + one s .report .consumed) (withFrame t (one s .report .channels) (one s .report .size) (one s .report .rate)) (drop (one s .report .consumed) s)
   unfolding goesOn
   frame-shown place t s e =
       ap (listing place t) (answers-unrolled law s ∙ ap (λ (k : Verdict). one s ∷ goesOn k (answers one (drop (one s .report .consumed) s))) e)
@@ -67,7 +67,7 @@ module _ {one : List ℕ → Result} (law : Lawful one) where
     taken = one w .report .consumed
 
     abbrev totalsAfter : Totals
-    totalsAfter = withFrame t (one w .report .channels) (one w .report .size)
+    totalsAfter = withFrame t (one w .report .channels) (one w .report .size) (one w .report .rate)
 
     -- an answer that is decided in the window is the card's answer
     longer : (verdict (one w) ≡ undecided → ⊥) → (more : List ℕ) → one (w ++ more) ≡ one w
@@ -81,7 +81,7 @@ module _ {one : List ℕ → Result} (law : Lawful one) where
       frame-longer more =
           let same = longer frame-known more in
           frame-shown place t (w ++ more) (ap verdict same ∙ e)
-          ∙ ap (λ (q : Result). shown (place + q .report .consumed) (withFrame t (q .report .channels) (q .report .size)) (drop (q .report .consumed) (w ++ more))) same
+          ∙ ap (λ (q : Result). shown (place + q .report .consumed) (withFrame t (q .report .channels) (q .report .size) (q .report .rate)) (drop (q .report .consumed) (w ++ more))) same
           ∙ ap (shown (place + taken) totalsAfter) (drop-append-le taken w more (law .there w e))
 
       frame-window-listing : WindowListing (place + taken) totalsAfter (drop taken w) → WindowListing place t w
@@ -175,15 +175,15 @@ module _ (s : List ℕ) (set : Settings) (room base : ℕ) where
     next = h .next ∙ ap (λ n. place + result (record { given = set; room = n }) (drop place s) .report .consumed) long
 
     pub step-frame : {f : Accepted} → r .answer ≡ ReadAnswer.Frame f
-        → listedAs set room (base + place) t (drop place s) ≡ listedAs set room (base + r .place) (withFrame t (f .channels) (f .size)) (drop (r .place) s)
+        → listedAs set room (base + place) t (drop place s) ≡ listedAs set room (base + r .place) (withFrame t (f .channels) (f .size) (f .rate)) (drop (r .place) s)
     unfolding verdictOf
     step-frame {f} e =
         let q = one (drop place s) .report in
         let is = ap reportOf (sym e) ∙ step-report in
         let sum : base + place + q .consumed ≡ base + r .place = omega (arith, next) in
         frame-shown (lawful (record { given = set; room = room })) (base + place) t (drop place s) (verdict-is (sym (ap (λ (p : Report). p .number) is)) refl)
-        ∙ ap₂ (λ m (l : List ℕ). listedAs set room m (withFrame t (q .channels) (q .size)) l) sum (drop-drop (q .consumed) place s ∙ ap (λ n. drop n s) (sym next))
-        ∙ ap₂ (λ a c. listedAs set room (base + r .place) (withFrame t a c) (drop (r .place) s)) (sym (ap (λ (p : Report). p .channels) is)) (sym (ap (λ (p : Report). p .size) is))
+        ∙ ap₂ (λ m (l : List ℕ). listedAs set room m (withFrame t (q .channels) (q .size) (q .rate)) l) sum (drop-drop (q .consumed) place s ∙ ap (λ n. drop n s) (sym next))
+        ∙ ap (λ (p : Report). listedAs set room (base + r .place) (withFrame t (p .channels) (p .size) (p .rate)) (drop (r .place) s)) (sym is)
 
     pub step-refused : {x : Refusal} → r .answer ≡ ReadAnswer.Refused x
         → listedAs set room (base + place) t (drop place s) ≡ record { place = base + place; totals = t; number = numberOf x }

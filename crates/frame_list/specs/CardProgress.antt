@@ -1,12 +1,16 @@
 -- How far a card has been read. Each turn, one pass over the window, reads further, and does not change what is listed
 -- of the card as a whole.
 use Prim.Native.Nat.{ℕ, _+_, _-_, _*_, _^_, _≤_, _<_}
+use mathlib.Core.Bool.{true}
 use mathlib.Core.Path.{_≡_}
 use mathlib.Core.List.{List, [], _++_}
 use lib.ListN.{length, take, drop}
 use Rattle.error.specs.declared.Refusal.{Refusal}
 use Rattle.error.specs.Numbers.{numberOf}
+use Rattle.rfc9639.specs.declared.SampleRate.{SampleRate}
 use Rattle.rfc9639.specs.declared.StreamBlock.{StreamBlock}
+use Rattle.rfc9639.specs.declared.StreamRecord.{StreamRecord}
+use Rattle.rfc9639.specs.Stream.{bitsInRange}
 use Rattle.frame_list.specs.declared.window.Rest.{Rest}
 use Rattle.frame_list.specs.declared.Totals.{Totals}
 use Rattle.frame_list.specs.declared.Card.{Card}
@@ -15,14 +19,16 @@ use Rattle.frame_list.specs.declared.Last.{Last}
 use Rattle.frame_list.specs.declared.Turn.{Turn}
 use Rattle.frame_list.specs.Listing.{Listing, listed}
 
--- the bytes held fit the window, and 64 bits can number every place of the window on the card
+-- the bytes held fit the window, 64 bits can number every place of the window on the card, and a stream can have the bits
+-- that the stream header gives
 pub record Sound (card : Card) (room : ℕ) : Type 0 where
   pub held-fits : card .held ≤ room
   pub numbered : card .base + room < 2 ^ 64
+  pub bits : bitsInRange (card .totals .stream) ≡ true
 
--- before the card's first frame
+-- before the card's first frame, if it has no stream header
 abbrev pub noFrames : Totals
-noFrames = record { frames = 0; samples = 0; block = StreamBlock.Unknown }
+noFrames = record { frames = 0; samples = 0; length = 0; rate = SampleRate.Unknown; block = StreamBlock.Unknown; stream = StreamRecord.Unknown }
 
 -- 1 if there may be more of the card to read
 abbrev pub pending : Rest → ℕ
@@ -109,10 +115,10 @@ abbrev pub Turns : ℕ → List ℕ → Card → Turn → List ℕ → Type 0
 Turns room was card (Turn.On next) left = Carries room was card next left
 Turns room was card (Turn.Over last) left = Stops room was card last
 
--- The whole run: its end is right about all the bytes that were read.
-pub record Runs (room : ℕ) (last : Last) (width : ℕ) : Type 0 where
-  pub seen : List ℕ
-  pub long : length seen ≡ last .card .base + last .card .held
-  pub accounts : Accounts room 0 (noFrames) seen last (last .how)
-  pub sound : Sound (last .card) width
+-- The whole run from a start, whose window holds the first bytes: its end is right about all the bytes that were read.
+pub record Runs (room : ℕ) (start : Card) (first : List ℕ) (last : Last) : Type 0 where
+  pub added : List ℕ
+  pub long : start .base + length (first ++ added) ≡ last .card .base + last .card .held
+  pub accounts : Accounts room (start .base) (start .totals) (first ++ added) last (last .how)
+  pub numbered : last .card .base + last .card .held < 2 ^ 64
   pub place-fits : last .place ≤ last .card .held

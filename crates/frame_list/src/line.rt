@@ -3,7 +3,7 @@ use libc::STDOUT_FILENO;
 ghost use Rattle.io.specs.Counts.{Counts};
 
 // Longer than any line that is written.
-pub const LINE: usize = 256;
+pub const LINE: usize = 512;
 
 // Puts a text into the line at a place, and returns the place after it. Text that does not fit is left out.
 fn put_in(line: &mut [u8], start: usize, text: &[u8]) -> usize
@@ -44,6 +44,15 @@ pub fn put_field(line: &mut [u8; LINE], start: usize, text: &[u8], number: u64) 
 {
     let n = put(line, start, text);
     put_number(line, n, number)
+}
+
+// The same, for a number's 16 hexadecimal digits.
+pub fn put_hex(line: &mut [u8; LINE], start: usize, number: u64) -> usize
+    ensures { λ r. ⌜ Counts r (now (line .exit)) ⌝ }
+{
+    let mut digits = [0u8; 16];
+    let n = io::hex(number, 16, &mut digits);
+    put(line, start, &digits[..n])
 }
 
 // Writes the line up to a place, and a newline.

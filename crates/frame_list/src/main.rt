@@ -1,37 +1,45 @@
-// Lists the frames of a card for people to read. The card is the file that the first argument names, or standard input
-// if there is none. Each frame gets a line; a last line says how many frames and samples there were, and how it ended.
+// Lists a FLAC file, or a card of bare frames, for people to read. The card is the file that the first argument names, or
+// standard input if there is none or it is '-'. A stream header (fLaC) gets a line, and each frame after it to the end;
+// then a line says how long the frames are, and a last one how many frames and samples there were, and how it ended.
 //
 // The last line starts with one of these words, from which a script can take its status:
 //     ended:     the card ends after a frame
-//     empty:     the card has no bytes
-//     stopped:   something on the card is no frame: the refusal's number and its cause
+//     empty:     the card has no bytes, or none after its stream header
+//     stopped:   something on the card is no frame, or no stream header: the refusal's number and its cause
 //     unread:    the card could not be opened or read: the system's error number
 //     limit:     a limit of this program ended the run, not the card
 // Then comes 'frames N, samples M; ' (M is the sum of channels times block size, but at most 2^64 - 1).
 //
 // The card may have any length: it is read through a window that is refilled. A refusal that more bytes may change is
 // reported only at the end of the card; any other is reported at once. The window makes no difference, which is proved:
-// the run lists what the definition's answers to all of the card's bytes list (`Runs`). The size of the stream's blocks
-// is that of the card's first.
+// the frames start where the definition's stream header ends on all of the card's bytes (`Opens`), and the run lists what
+// the definition's answers to all bytes from there on list (`Runs`). The size of the stream's blocks is that of the
+// card's first; the bits and the rate that a frame leaves to the stream are those of the stream header.
 mod line;
+mod opening;
 mod report;
-mod stream;
 mod window;
 
 use error::Need;
 use error::Refusal;
+use frame::Accepted;
 use frame::ReadAnswer;
 use libc::STDIN_FILENO;
+use opening::Opening;
+use report::Said;
+use rfc9639::SampleRate;
 use rfc9639::Settings;
 use rfc9639::StreamBlock;
-use stream::Opening;
+use rfc9639::StreamInfo;
+use rfc9639::StreamRecord;
 use window::Rest;
-ghost use Prim.Native.Nat.{_+_, _^_, _<_, _≤_};
+ghost use Prim.Native.Nat.{_+_, _*_, _^_, _<_, _≤_};
 ghost use mathlib.Core.Path.{_≡_};
-ghost use lib.ListN.{length};
+ghost use lib.ListN.{length, take};
 ghost use Rattle.frame_list.specs.declared.window.Rest.{Rest as RestOf};
-ghost use Rattle.frame_list.specs.Listing.{capped, blockFor, Lists};
+ghost use Rattle.frame_list.specs.Listing.{capped, rateWith, withFrame, blockFor, Lists};
 ghost use Rattle.frame_list.specs.CardProgress.{Sound, Stays, Refills, Turns, Runs};
+ghost use Rattle.frame_list.specs.Opening.{told, knownRate};
 
 // How many bytes of the card are in memory at a time. Eight channels of 65,535 verbatim samples of 24 bits take at most
 // 1,572,866.
@@ -40,12 +48,16 @@ pub const WINDOW: usize = 2097152;
 // Room for eight channels of 65,535 samples, which no frame exceeds.
 const ROOM: usize = 524280;
 
-// What the frames so far told: how many there were, how many samples they had, and the size of the stream's blocks,
-// which the first of them gives.
+// What the card told so far: how many frames there were, how many samples they had in all channels and in each one, the
+// sample rate, which the stream header gives or else the first frame that has one, the size of the stream's blocks,
+// which the first frame gives, and what the stream header gives to all frames.
 pub struct Totals {
     pub frames: u64,
     pub samples: u64,
+    pub length: u64,
+    pub rate: SampleRate,
     pub block: StreamBlock,
+    pub stream: StreamRecord,
 }
 
 // How far the card has been read: the place on the card of the window's first byte, how many bytes the window holds,
@@ -117,30 +129,60 @@ fn stream_block(bytes: &[u8], known: StreamBlock) -> StreamBlock
     }
 }
 
+// The sample rate: once it is known it stays.
+fn rate_with(known: SampleRate, own: SampleRate) -> SampleRate
+    ensures { λ r. ⌜ r ≡ rateWith known own ⌝ }
+{
+    match known {
+        SampleRate::Known(_) => known,
+        SampleRate::Unknown => own,
+    }
+}
+
+// The totals with one more frame.
+fn with_frame(t: Totals, f: Accepted) -> Totals
+    requires { ⌜ f .channels * f .size < 2 ^ 64 ⌝ }
+    ensures { λ r. ⌜ r ≡ withFrame t (f .channels) (f .size) (f .rate) ⌝ }
+{
+    let known = t.rate;
+    let own = f.rate;
+    let block = t.block;
+    let stream = t.stream;
+    Totals {
+        frames: sum(t.frames, 1),
+        samples: sum(t.samples, (f.channels * f.size) as u64),
+        length: sum(t.length, f.size as u64),
+        rate: rate_with(known, own),
+        block,
+        stream,
+    }
+}
+
 // Lists the frames that are complete within the bytes. The first byte is at `base` on the card.
 fn list_frames(bytes: &[u8], base: u64, before: Totals, samples: &mut [i32]) -> Listed
     requires { ⌜ base + length (now bytes) < 2 ^ 64 ⌝ }
     ensures { λ r. ⌜ Lists (now (bytes .entry)) base before (length (now (samples .entry))) r ⌝ }
 {
     let known = before.block;
+    let rate = before.rate;
+    let stream = before.stream;
     let block = stream_block(bytes, known);
     let mut place = 0;
     let mut totals = Totals {
         frames: before.frames,
         samples: before.samples,
+        length: before.length,
+        rate,
         block,
+        stream,
     };
     loop {
-        let step = walk::read_next(bytes, place, Settings { block }, samples);
+        let step = walk::read_next(bytes, place, Settings { block, stream }, samples);
         let answer = step.answer;
         match answer {
             ReadAnswer::Frame(f) => {
                 report::frame_line(base + place as u64, f);
-                totals = Totals {
-                    frames: sum(totals.frames, 1),
-                    samples: sum(totals.samples, (f.channels * f.size) as u64),
-                    block,
-                };
+                totals = with_frame(totals, f);
                 place = step.place;
             }
             ReadAnswer::Refused(refusal) => {
@@ -271,21 +313,12 @@ fn advance(fd: i32, card: Card, window: &mut [u8], samples: &mut [i32]) -> Turn
     }
 }
 
-// From the card's first byte to where the run ends.
-fn read_card(fd: i32, window: &mut [u8], samples: &mut [i32]) -> Last
-    requires { ⌜ length (now window) < 2 ^ 64 ⌝ }
-    ensures { λ r. ⌜ Runs (length (now (samples .entry))) r (length (now (window .entry))) ⌝ }
+// From where the frames start to where the run ends.
+fn read_card(fd: i32, start: Card, window: &mut [u8], samples: &mut [i32]) -> Last
+    requires { ⌜ Sound start (length (now window)) ⌝ }
+    ensures { λ r. ⌜ Runs (length (now (samples .entry))) start (take (start .held) (now (window .entry))) r ⌝ }
 {
-    let mut card = Card {
-        base: 0,
-        held: 0,
-        rest: Rest::More,
-        totals: Totals {
-            frames: 0,
-            samples: 0,
-            block: StreamBlock::Unknown,
-        },
-    };
+    let mut card = start;
     loop {
         let turn = advance(fd, card, window, samples);
         match turn {
@@ -295,36 +328,9 @@ fn read_card(fd: i32, window: &mut [u8], samples: &mut [i32]) -> Last
     }
 }
 
-// What a card starts with that does not start with a frame.
-fn read_opening(fd: i32, window: &mut [u8], held: usize) -> Opening
-    requires { ⌜ (held ≤ length (now window)) × (4 ≤ length (now window)) ⌝ }
-{
-    let four = window::fill_to(fd, window, held, 4);
-    let n = four.held;
-    if !stream::is_header(&window[..n]) {
-        return Opening::Other;
-    }
-    let all = window::fill_to(fd, window, n, window.len());
-    let n = all.held;
-    stream::opening_of(&window[..n])
-}
-
-// There is no frame at a place of the card, whatever bytes follow.
-fn refuse(fd: i32, card: Card, at: u64, e: Refusal, window: &mut [u8])
-    requires { ⌜ Sound card (length (now window)) × (4 ≤ length (now window)) ⌝ }
-{
-    let totals = card.totals;
-    if at != 0 {
-        report::refused(totals, at, e, Opening::Other);
-        return;
-    }
-    let opening = read_opening(fd, window, card.held);
-    report::refused(totals, at, e, opening);
-}
-
 // Writes the last line.
-fn write_last_line(fd: i32, last: Last, window: &mut [u8])
-    requires { ⌜ Sound (last .card) (length (now window)) × (last .place ≤ last .card .held) × (4 ≤ length (now window)) ⌝ }
+fn write_last_line(last: Last)
+    requires { ⌜ (last .card .base + last .card .held < 2 ^ 64) × (last .place ≤ last .card .held) ⌝ }
 {
     let card = last.card;
     let at = card.base + last.place as u64;
@@ -332,18 +338,78 @@ fn write_last_line(fd: i32, last: Last, window: &mut [u8])
     let how = last.how;
     match how {
         How::Ended(e) => report::ended(totals, at, e),
-        How::Refused(e) => refuse(fd, card, at, e, window),
+        How::Refused(e) => report::refused(totals, at, e),
         How::Unread(error) => report::unread(totals, card.base + card.held as u64, error),
         How::TooLong => report::too_long(totals, at),
         How::TooFar => report::too_far(totals, at),
     }
 }
 
-fn list_card(fd: i32, window: &mut [u8], samples: &mut [i32])
-    requires { ⌜ (4 ≤ length (now window)) × (length (now window) < 2 ^ 64) ⌝ }
+// The same, where the run ended within the stream header.
+fn write_header_over(last: Last)
+    requires { ⌜ (last .card .base + last .card .held < 2 ^ 64) × (last .place ≤ last .card .held) ⌝ }
 {
-    let last = read_card(fd, window, samples);
-    write_last_line(fd, last, window);
+    let how = last.how;
+    match how {
+        How::Ended(e) => report::header_refused(e),
+        How::Refused(e) => report::header_refused(e),
+        _ => write_last_line(last),
+    }
+}
+
+// The frames of the card and the lines after them.
+fn list_from(fd: i32, start: Card, said: Said, window: &mut [u8], samples: &mut [i32])
+    requires { ⌜ Sound start (length (now window)) ⌝ }
+{
+    let last = read_card(fd, start, window, samples);
+    let card = last.card;
+    let totals = card.totals;
+    report::length(totals, said);
+    write_last_line(last);
+}
+
+// What the stream header tells of the frames. A rate of 0 tells nothing.
+fn totals_of(info: StreamInfo) -> Totals
+    ensures { λ r. ⌜ r ≡ told info ⌝ }
+{
+    Totals {
+        frames: 0,
+        samples: 0,
+        length: 0,
+        rate: known_rate(info.rate),
+        block: StreamBlock::Unknown,
+        stream: StreamRecord::Known(info.bits, info.rate),
+    }
+}
+
+fn known_rate(rate: u32) -> SampleRate
+    ensures { λ r. ⌜ r ≡ knownRate rate ⌝ }
+{
+    if rate == 0 {
+        return SampleRate::Unknown;
+    }
+    SampleRate::Known(rate)
+}
+
+fn list_card(fd: i32, window: &mut [u8], samples: &mut [i32])
+    requires { ⌜ length (now window) < 2 ^ 64 ⌝ }
+{
+    let opening = opening::read_opening(fd, window);
+    match opening {
+        Opening::Bare(card) => list_from(fd, card, Said::Nothing, window, samples),
+        Opening::Stream(info, card) => {
+            report::stream_line(card.base, info);
+            let rest = card.rest;
+            let start = Card {
+                base: card.base,
+                held: card.held,
+                rest,
+                totals: totals_of(info),
+            };
+            list_from(fd, start, Said::Samples(info.samples), window, samples);
+        }
+        Opening::Over(last) => write_header_over(last),
+    }
 }
 
 // Turns the arrays into slices, away from the function that owns them.
@@ -351,19 +417,70 @@ fn list_into(fd: i32, window: &mut [u8; WINDOW], samples: &mut [i32; ROOM]) {
     list_card(fd, window, samples);
 }
 
-// Opens the card that the first argument names.
-fn open_card() -> Opened {
-    let mut path = io::buffer();
-    let n = os::arg(1, &mut path);
-    let error = os::errno();
-    if error != 0 {
-        return Opened::Failed(error);
+// What the first argument asks for.
+pub enum Word {
+    Help,
+    Input,
+    Unknown,
+    Name,
+}
+
+fn word_of(text: &[u8]) -> Word {
+    if text.len() == 0 {
+        return Word::Name;
     }
-    let fd = os::open_read(&path[..n]);
+    if text[0] != b'-' {
+        return Word::Name;
+    }
+    if text.len() == 1 {
+        return Word::Input;
+    }
+    if check::same(text, b"--help") {
+        return Word::Help;
+    }
+    if check::same(text, b"-h") {
+        return Word::Help;
+    }
+    Word::Unknown
+}
+
+// Opens the card of this name.
+fn open_card(name: &[u8]) -> Opened {
+    let fd = os::open_read(name);
     if fd < 0 {
         return Opened::Failed(os::errno());
     }
     Opened::At(fd)
+}
+
+// Lists the card of this name.
+fn list_named(name: &[u8], window: &mut [u8; WINDOW], samples: &mut [i32; ROOM]) {
+    let opened = open_card(name);
+    match opened {
+        Opened::At(fd) => {
+            list_into(fd, window, samples);
+            libc::close(fd);
+        }
+        Opened::Failed(error) => report::unopened(error),
+    }
+}
+
+// Does what the first argument asks for.
+fn obey(window: &mut [u8; WINDOW], samples: &mut [i32; ROOM]) {
+    let mut text = io::buffer();
+    let n = os::arg(1, &mut text);
+    let error = os::errno();
+    if error != 0 {
+        report::unopened(error);
+        return;
+    }
+    let word = word_of(&text[..n]);
+    match word {
+        Word::Help => report::usage(),
+        Word::Input => list_into(STDIN_FILENO, window, samples),
+        Word::Unknown => report::unknown_argument(),
+        Word::Name => list_named(&text[..n], window, samples),
+    }
 }
 
 fn main() {
@@ -377,12 +494,5 @@ fn main() {
         list_into(STDIN_FILENO, &mut window, &mut samples);
         return;
     }
-    let opened = open_card();
-    match opened {
-        Opened::At(fd) => {
-            list_into(fd, &mut window, &mut samples);
-            libc::close(fd);
-        }
-        Opened::Failed(error) => report::unopened(error),
-    }
+    obey(&mut window, &mut samples);
 }

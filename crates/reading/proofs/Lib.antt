@@ -10,3 +10,4 @@ pub mod BitsTaken
 pub mod BytePrefixes
 pub mod Postconditions
 pub mod Outcome
+pub mod Shifted

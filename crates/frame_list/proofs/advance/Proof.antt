@@ -4,7 +4,7 @@ use mathlib.Core.Path.{refl, sym, _∙_}
 use lib.ListN.{length}
 use lib.Seq.{length-take-le}
 use Rattle.error.specs.declared.Need.{Need}
-use Rattle.frame_list.proofs.CardTurns.{verdictFor, listed-place-held, turns, refused-stops}
+use Rattle.frame_list.proofs.CardTurns.{verdictFor, read-sound, listed-place-held, turns, refused-stops}
 use borrow.Author.Needs.{needs}
 use Rattle.frame_list.proofs.advance.Statement.{statement}
 use Rattle.frame_list.proofs.advance.Tie as tie
@@ -32,7 +32,7 @@ wait-requires : tie.Need-wait-requires
 wait-requires c κs =
     let ls = c .before .before .before .before .before .before in
     let a = ls .before .before .before .before in
-    (record { held-fits = a .pre .held-fits; numbered = a .pre .numbered }, listed-place-held (length (a .args .samples .now)) (a .args .window .now) (a .args .card) (ls .list-frames .result) (a .pre) (ls .list-frames .ensures))
+    (read-sound (length (a .args .samples .now)) (a .args .window .now) (a .args .card) (ls .list-frames .result) (a .pre) (ls .list-frames .ensures), listed-place-held (length (a .args .samples .now)) (a .args .window .now) (a .args .card) (ls .list-frames .result) (a .pre) (ls .list-frames .ensures))
 
 enum-told-2 : tie.Need-enum-told-2
 enum-told-2 c = search needs

@@ -2,7 +2,7 @@
 use native.Mathlib.Omega.{arith}
 use mathlib.Core.Path.{_≡_, _∙_}
 use borrow.Author.Needs.{needs}
-use lib.ListN.{length}
+use lib.ListN.{length, take}
 use Rattle.frame_list.specs.CardProgress.{Sound, ahead}
 use Rattle.frame_list.proofs.CardTurns.{turns-on, turns-over, SoFar, begin, soFar-on, soFar-runs}
 use Rattle.frame_list.proofs.read_card.Statement.{statement}
@@ -10,7 +10,7 @@ use Rattle.frame_list.proofs.read_card.Tie as tie
 
 abbrev Inv-loop : tie.InvT-loop
 Inv-loop fd window₀ samples₀ card₀ window samples card =
-    Sound card (length window₀) × (length window ≡ length window₀) × (length samples ≡ length samples₀) × SoFar (length samples₀) window card
+    Sound card (length window₀) × (length window ≡ length window₀) × (length samples ≡ length samples₀) × SoFar (length samples₀) card₀ (take (card₀ .held) window₀) window card
 
 abbrev μ-loop : tie.MeasureT-loop
 μ-loop fd window₀ samples₀ card₀ window samples card = ahead card
@@ -18,12 +18,12 @@ abbrev μ-loop : tie.MeasureT-loop
 loop-holds : tie.Need-loop-holds Inv-loop μ-loop
 loop-holds c =
     let a = c .before in
-    (record { held-fits = omega arith; numbered = omega (arith, a .pre) }, search needs, search needs, begin (length (a .args .samples .now)) (a .args .window .now))
+    (a .pre, search needs, search needs, begin (length (a .args .samples .now)) (a .args .start) (a .args .window .now) (a .pre .held-fits))
 
 advance-requires : tie.Need-advance-requires Inv-loop μ-loop
 advance-requires c κs =
     let l = c .before .before in
-    record { held-fits = omega (arith, l .loop .inv .0 .held-fits, l .loop .inv .1); numbered = omega (arith, l .loop .inv .0 .numbered, l .loop .inv .1) }
+    record { held-fits = omega (arith, l .loop .inv .0 .held-fits, l .loop .inv .1); numbered = omega (arith, l .loop .inv .0 .numbered, l .loop .inv .1); bits = l .loop .inv .0 .bits }
 
 enum-known-turn : tie.Need-enum-known-turn Inv-loop μ-loop
 enum-known-turn c = search needs
@@ -44,7 +44,7 @@ loop-again c =
     let a = l .before .before in
     let n = c .before .turn .given .0 .0 in
     let g = turns-on (length (l .loop .samples)) (length (a .args .samples .now)) (l .loop .inv .2) (l .loop .window) (l .loop .card) n (v .advance .last .1 .1 .0) (v .advance .result) (c .before .turn .given .1) (v .advance .ensures) in
-    (record { held-fits = omega (arith, g .sound .held-fits, l .loop .inv .1); numbered = omega (arith, g .sound .numbered, l .loop .inv .1) }, v .advance .kept .1 .1 .0 ∙ l .loop .inv .1, v .advance .kept .1 .1 .1 .0 ∙ l .loop .inv .2, soFar-on (length (a .args .samples .now)) (l .loop .window) (l .loop .card) (l .loop .inv .3) n (v .advance .last .1 .1 .0) g)
+    (record { held-fits = omega (arith, g .sound .held-fits, l .loop .inv .1); numbered = omega (arith, g .sound .numbered, l .loop .inv .1); bits = g .sound .bits }, v .advance .kept .1 .1 .0 ∙ l .loop .inv .1, v .advance .kept .1 .1 .1 .0 ∙ l .loop .inv .2, soFar-on (length (a .args .samples .now)) (a .args .start) (take (a .args .start .held) (a .args .window .now)) (l .loop .window) (l .loop .card) (l .loop .inv .3) n (v .advance .last .1 .1 .0) g)
 
 enum-known-turn-2 : tie.Need-enum-known-turn-2 Inv-loop μ-loop
 enum-known-turn-2 c = search needs
@@ -68,7 +68,7 @@ returns c =
     let v = c .before .before .before .before .before .before in
     let l = v .before .before .before in
     let a = l .before .before in
-    soFar-runs (length (a .args .samples .now)) (l .loop .window) (l .loop .card) (l .loop .inv .3) (length (a .args .window .now)) (l .loop .inv .0) (c .before .turn2 .given .0 .0) (turns-over (length (l .loop .samples)) (length (a .args .samples .now)) (l .loop .inv .2) (l .loop .window) (l .loop .card) (c .before .turn2 .given .0 .0) (v .advance .last .1 .1 .0) (v .advance .result) (c .before .turn2 .given .1) (v .advance .ensures))
+    soFar-runs (length (a .args .samples .now)) (a .args .start) (take (a .args .start .held) (a .args .window .now)) (l .loop .window) (l .loop .card) (l .loop .inv .3) (length (a .args .window .now)) (l .loop .inv .0) (c .before .turn2 .given .0 .0) (turns-over (length (l .loop .samples)) (length (a .args .samples .now)) (l .loop .inv .2) (l .loop .window) (l .loop .card) (c .before .turn2 .given .0 .0) (v .advance .last .1 .1 .0) (v .advance .result) (c .before .turn2 .given .1) (v .advance .ensures))
 
 pub read-card-spec : {M : Type 1} → statement M
 read-card-spec =
