@@ -4,13 +4,13 @@ use Prim.Native.Nat.{ℕ, zero, suc, _+_, _*_, _≤_, _<_}
 use native.Mathlib.Omega.{arith}
 use mathlib.Core.Bool.{Bool, true, false}
 use mathlib.Core.Logic.{_≢_}
-use mathlib.Core.Path.{_≡_, refl, ap, sym, _∙_, subst}
+use mathlib.Core.Path.{_≡_, refl, sym, _∙_, subst}
 use mathlib.Core.List.{List, _++_}
 use lib.ListN.{length, take, length-append, length-take}
 use Rattle.reading.specs.declared.Place.{Place}
 use Rattle.reading.specs.Readers.{Ask, done, _>>=_, if_then_else_}
 use Rattle.reading.specs.Places.{position, placeOf, At, gotAt, refusedAt, shortAt, runAt, andThen}
-use Rattle.reading.proofs.ByteRuns.{In, start-in, stays-in, runAt-done, runAt-bind, bind-is}
+use Rattle.reading.proofs.ByteRuns.{In, stays-in, runAt-done, runAt-bind, bind-is}
 use Rattle.reading.proofs.BytePrefixes.{runAt-append, runAt-take, runAt-take-short}
 use Rattle.reading.proofs.Postconditions.{Meets, holds-at}
 use Rattle.reading.proofs.BitsTaken.{takes-weaken, same-bit}
