@@ -1,6 +1,7 @@
 -- The card's first bytes: the mark and STREAMINFO, and the stream header by what follows them. Assumes nothing.
 use Prim.Native.Nat.{ℕ, _+_, _^_, _≤_, _<_}
 use native.Mathlib.Omega.{arith}
+use mathlib.Core.Logic.{_⊎_, inl, inr, ⊎-elim}
 use mathlib.Core.Path.{_≡_, refl, ap, sym, _∙_, subst}
 use mathlib.Core.Bool.{Bool, true, _&&_}
 use mathlib.Core.List.{List, _++_, append-assoc}
@@ -27,7 +28,7 @@ use Rattle.frame_list.specs.declared.opening.Skip.{Skip}
 use Rattle.frame_list.specs.declared.opening.Skipped.{Skipped}
 use Rattle.frame_list.specs.declared.opening.StartTurn.{StartTurn}
 use Rattle.frame_list.specs.CardProgress.{Sound, Continues, Wanting, Closes}
-use Rattle.frame_list.specs.Opening.{byteAt, blocksAfter, blocksFrom, Tells, SkipsAll, SkipsTo, Waits, Refusing, Unfound, Unstarted, NotFound, Found, StartTurns, Bare, Headed, HeaderOver, Stream}
+use Rattle.frame_list.specs.Opening.{byteAt, blocksAfter, blocksFrom, Tells, SkipsAll, SkipsTo, Waits, Refusing, Unfound, Unstarted, Unmarked, NotFound, Found, StartTurns, Bare, Headed, HeaderOver, Stream}
 use Rattle.frame_list.proofs.MetadataBlocks.{refused-short, refused-number}
 
 -- ---- a refusal of the start
@@ -94,7 +95,7 @@ module _ (was left : List ℕ) (card : Card) (e : Refusal) where
 
   pub waits-unstarted : numberOf e ≡ 2 → (r : StartTurn) → Waits was card r left → Unstarted was card e r left
   waits-unstarted n (StartTurn.On next) h = h
-  waits-unstarted n (StartTurn.Bare next) h = h
+  waits-unstarted n (StartTurn.Bare next) h = (h .0, h .1, inr (h .2, h .3))
   waits-unstarted n (StartTurn.Header info skip) h = h
   waits-unstarted n (StartTurn.Over end) h = record { same-card = h .same-card; same-place = h .same-place; how = refusing n (end .how) (h .how) }
 
@@ -110,7 +111,8 @@ module _ (was left : List ℕ) (card : Card) (e : Refusal) where
 
     pub unstarted-turns : (r : StartTurn) → Unstarted was card e r left → StartTurns was card r left
     unstarted-turns (StartTurn.On next) h = h
-    unstarted-turns (StartTurn.Bare next) h = h
+    unstarted-turns (StartTurn.Bare next) h =
+        (h .0, h .1, ⊎-elim (λ n. inl (λ more. header-refused (take (card .held) was ++ more) (start-refused (take (card .held) was) more (sym is ∙ refused-number e (λ z. omega arith))) ∙ ap refusedAt n)) inr (h .2))
     unstarted-turns (StartTurn.Header info skip) h = absurd h
     unstarted-turns (StartTurn.Over end) h = record { same-card = h .same-card; same-place = h .same-place; tells = refused-tells (end .how) (h .how) }
 
@@ -119,7 +121,7 @@ module _ (was left : List ℕ) (card : Card) (turn : StartTurn) (h : StartTurns 
   pub starts-on : {next : Card} → turn ≡ StartTurn.On next → Continues was card 0 next left
   starts-on e = subst (λ (t : StartTurn). StartTurns was card t left) e h
 
-  pub starts-bare : {next : Card} → turn ≡ StartTurn.Bare next → next ≡ card
+  pub starts-bare : {next : Card} → turn ≡ StartTurn.Bare next → (next ≡ card) × (left ≡ was) × Unmarked card (take (card .held) was)
   starts-bare e = subst (λ (t : StartTurn). StartTurns was card t left) e h
 
   pub starts-header : {info : StreamInfo} {skip : Skip} → turn ≡ StartTurn.Header info skip → (left ≡ was) × Found (take (card .held) was) card info skip
@@ -138,8 +140,13 @@ module _ (card : Card) (width : ℕ) (bare : Bare card width) where
     sound = subst (Sound next) long (c .sound);
   }
 
-  pub bare-again : (left : List ℕ) (next : Card) → length left ≡ width → next ≡ card → Bare next (length left)
+  bare-again : (left : List ℕ) (next : Card) → length left ≡ width → next ≡ card → Bare next (length left)
   bare-again left next long same = subst (λ n. Bare next n) (sym long) (subst (λ (c : Card). Bare c width) (sym same) bare)
+
+  pub bare-unmarked : (w left : List ℕ) (next : Card) → length left ≡ width → (next ≡ card) × (left ≡ w) × Unmarked card (take (card .held) w)
+      → Bare next (length left) × Unmarked next (take (next .held) left)
+  bare-unmarked w left next long (same, still, none) =
+      (bare-again left next long same, subst (λ (c : Card). Unmarked c (take (c .held) left)) (sym same) (subst (λ (s : List ℕ). Unmarked card (take (card .held) s)) (sym still) none))
 
   pub bare-headed : (w left : List ℕ) (info : StreamInfo) (skip : Skip) → length left ≡ width → left ≡ w → Found (take (card .held) w) card info skip → Headed info skip left
   bare-headed w left info skip long same f = record {

@@ -2,6 +2,7 @@
 -- promise is about all of the card's bytes, those before the window, those in it and those that follow.
 use Prim.Native.Nat.{ℕ, _+_, _-_, _^_, _≤_, _<_, min}
 use mathlib.Core.Bool.{Bool, true, false}
+use mathlib.Core.Logic.{_⊎_}
 use mathlib.Core.Path.{_≡_}
 use mathlib.Core.List.{List, _++_}
 use lib.Dec.{eqb}
@@ -28,7 +29,7 @@ use Rattle.frame_list.specs.declared.opening.Skipped.{Skipped}
 use Rattle.frame_list.specs.declared.opening.StartTurn.{StartTurn}
 use Rattle.frame_list.specs.declared.opening.Started.{Started}
 use Rattle.frame_list.specs.declared.opening.Opening.{Opening}
-use Rattle.frame_list.specs.CardProgress.{Sound, noFrames, ahead, Continues, Closes}
+use Rattle.frame_list.specs.CardProgress.{Sound, noFrames, pending, Continues, Closes}
 
 -- ---- what a stream header tells of the frames after it
 
@@ -170,7 +171,7 @@ Skips first start (Skipped.Over end) left = SkipsTo first start end
 
 abbrev pub Waits : List ℕ → Card → StartTurn → List ℕ → Type 0
 Waits was card (StartTurn.On next) left = Continues was card 0 next left
-Waits was card (StartTurn.Bare next) left = next ≡ card
+Waits was card (StartTurn.Bare next) left = (next ≡ card) × (left ≡ was) × (card .held < 4) × (pending (card .rest) ≡ 0)
 Waits was card (StartTurn.Header info skip) left = ⊥
 Waits was card (StartTurn.Over end) left = Closes card 0 Refusal.CutShort end
 
@@ -189,9 +190,14 @@ pub record Unfound (card : Card) (e : Refusal) (end : Last) : Type 0 where
 
 abbrev pub Unstarted : List ℕ → Card → Refusal → StartTurn → List ℕ → Type 0
 Unstarted was card e (StartTurn.On next) left = Continues was card 0 next left
-Unstarted was card e (StartTurn.Bare next) left = next ≡ card
+Unstarted was card e (StartTurn.Bare next) left = (next ≡ card) × (left ≡ was) × ((numberOf e ≡ 3) ⊎ ((card .held < 4) × (pending (card .rest) ≡ 0)))
 Unstarted was card e (StartTurn.Header info skip) left = ⊥
 Unstarted was card e (StartTurn.Over end) left = Unfound card e end
+
+-- A card without a stream header: its first bytes are no mark, whatever follows them; or there are fewer than four, and no
+-- more can be read.
+abbrev pub Unmarked : Card → List ℕ → Type 0
+Unmarked card s = ((more : List ℕ) → streamHeaderOf (s ++ more) ≡ refusedAt 3) ⊎ ((card .held < 4) × (pending (card .rest) ≡ 0))
 
 -- a start that is found in these bytes
 pub record Found (s : List ℕ) (card : Card) (info : StreamInfo) (skip : Skip) : Type 0 where
@@ -205,7 +211,7 @@ pub record NotFound (s : List ℕ) (card : Card) (end : Last) : Type 0 where
 
 abbrev pub StartTurns : List ℕ → Card → StartTurn → List ℕ → Type 0
 StartTurns was card (StartTurn.On next) left = Continues was card 0 next left
-StartTurns was card (StartTurn.Bare next) left = next ≡ card
+StartTurns was card (StartTurn.Bare next) left = (next ≡ card) × (left ≡ was) × Unmarked card (take (card .held) was)
 StartTurns was card (StartTurn.Header info skip) left = (left ≡ was) × Found (take (card .held) was) card info skip
 StartTurns was card (StartTurn.Over end) left = NotFound (take (card .held) was) card end
 
@@ -229,7 +235,7 @@ pub record HeaderOver (end : Last) : Type 0 where
   pub place-fits : end .place ≤ end .card .held
 
 abbrev pub Starts : List ℕ → Started → Type 0
-Starts left (Started.Bare card) = Bare card (length left)
+Starts left (Started.Bare card) = Bare card (length left) × Unmarked card (take (card .held) left)
 Starts left (Started.Header info skip) = Headed info skip left
 Starts left (Started.Over end) = HeaderOver end
 
@@ -242,6 +248,6 @@ pub record Stream (info : StreamInfo) (card : Card) (left : List ℕ) : Type 0 w
   pub bits : bitsInRange (StreamRecord.Known (info .bits) (info .rate)) ≡ true
 
 abbrev pub Opens : List ℕ → Opening → Type 0
-Opens left (Opening.Bare card) = Bare card (length left)
+Opens left (Opening.Bare card) = Bare card (length left) × Unmarked card (take (card .held) left)
 Opens left (Opening.Stream info card) = Stream info card left
 Opens left (Opening.Over end) = HeaderOver end

@@ -19,8 +19,9 @@ use stream::BlockHead;
 use stream::StartRead;
 ghost use Prim.Native.Nat.{_^_, _<_, _≤_};
 ghost use mathlib.Core.Path.{_≡_};
+ghost use lib.Dec.{eqb};
 ghost use lib.ListN.{length, take};
-ghost use Rattle.frame_list.specs.CardProgress.{Sound};
+ghost use Rattle.frame_list.specs.CardProgress.{Sound, pending};
 ghost use Rattle.frame_list.specs.Opening.{Hops, Moves, Arrives, Passes, SkipTurns, Skips, Waits, Unstarted, StartTurns, Starts, Opens};
 
 // Where the next metadata block starts in the window, or, after the last one, the first frame: `true`. The place may be
@@ -189,7 +190,9 @@ fn skip_blocks(fd: i32, start: Skip, window: &mut [u8]) -> Skipped
 }
 
 // Whether nothing more can be read.
-fn is_over(rest: Rest) -> bool {
+fn is_over(rest: Rest) -> bool
+    ensures { λ r. ⌜ r ≡ eqb (pending rest) 0 ⌝ }
+{
     match rest {
         Rest::More => false,
         Rest::Ended => true,

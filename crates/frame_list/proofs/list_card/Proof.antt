@@ -16,7 +16,7 @@ enum-known-opening c = search needs
 list-from-requires : tie.Need-list-from-requires
 list-from-requires c κs =
     let o = subst (Opens (c .before .before .before .before .before .before .before .read-opening .last .1 .0)) (c .before .before .before .opening .given .1) (c .before .before .before .before .before .before .before .read-opening .ensures) in
-    o .sound
+    o .0 .sound
 
 enum-known-opening-2 : tie.Need-enum-known-opening-2
 enum-known-opening-2 c = search needs

@@ -1,5 +1,7 @@
 -- `frames::opening::no_start` meets its contract, by the refusal's number. Assumes nothing.
 use native.Mathlib.Omega.{arith}
+use mathlib.Core.Logic.{inl}
+use mathlib.Core.Path.{refl}
 use Rattle.frame_list.proofs.StreamStarts.{waits-unstarted}
 use borrow.Author.Needs.{needs}
 use Rattle.frame_list.proofs.opening.no_start.Statement.{statement}
@@ -21,7 +23,7 @@ returns c =
     waits-unstarted (a .args .window .now) (r .short-start .last .1 .1 .0) (a .args .card) (a .args .e) (omega arith) (r .short-start .result) (r .short-start .ensures)
 
 returns-2 : tie.Need-returns-2
-returns-2 c = search needs
+returns-2 c = (refl, refl, inl (omega arith))
 
 returns-3 : tie.Need-returns-3
 returns-3 c = search needs

@@ -6,7 +6,7 @@ use lib.ListN.{length, take}
 use Rattle.rfc9639.specs.Stream.{bitsInRange}
 use Rattle.frame_list.specs.CardProgress.{ahead}
 use Rattle.frame_list.specs.Opening.{Bare}
-use Rattle.frame_list.proofs.StreamStarts.{starts-on, starts-bare, starts-header, starts-over, bare-on, bare-again, bare-headed, bare-over}
+use Rattle.frame_list.proofs.StreamStarts.{starts-on, starts-bare, starts-header, starts-over, bare-on, bare-unmarked, bare-headed, bare-over}
 use Rattle.frame_list.proofs.opening.read_start.Statement.{statement}
 use Rattle.frame_list.proofs.opening.read_start.Tie as tie
 
@@ -63,7 +63,7 @@ returns c =
     let l = v .before .before in
     let a = l .before .before in
     let long = v .start-turn .kept .1 .1 .0 ∙ l .loop .inv .1 in
-    bare-again (l .loop .card) (length (a .args .window .now)) (l .loop .inv .0) (v .start-turn .last .1 .1 .0) (c .before .turn2 .given .0 .0) long (starts-bare (l .loop .window) (v .start-turn .last .1 .1 .0) (l .loop .card) (v .start-turn .result) (v .start-turn .ensures) (c .before .turn2 .given .1))
+    bare-unmarked (l .loop .card) (length (a .args .window .now)) (l .loop .inv .0) (l .loop .window) (v .start-turn .last .1 .1 .0) (c .before .turn2 .given .0 .0) long (starts-bare (l .loop .window) (v .start-turn .last .1 .1 .0) (l .loop .card) (v .start-turn .result) (v .start-turn .ensures) (c .before .turn2 .given .1))
 
 enum-known-turn-3 : tie.Need-enum-known-turn-3 Inv-loop μ-loop
 enum-known-turn-3 c = search needs

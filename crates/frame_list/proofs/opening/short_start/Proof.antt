@@ -1,4 +1,6 @@
 -- `frames::opening::short_start` meets its contract: a refill from the window's first byte. Assumes nothing.
+use mathlib.Core.Path.{refl, sym, _∙_}
+use borrow.Author.Tests.{eqb-true}
 use Rattle.error.specs.declared.Refusal.{Refusal}
 use Rattle.frame_list.proofs.CardTurns.{refills-on, refills-over}
 use borrow.Author.Needs.{needs}
@@ -9,7 +11,7 @@ is-over-requires : tie.Need-is-over-requires
 is-over-requires c κs = search needs
 
 returns : tie.Need-returns
-returns c = search needs
+returns c = (refl, refl, c .if2 .taken, eqb-true _ 0 (sym (c .before .before .before .is-over .ensures) ∙ c .before .before .if1 .taken))
 
 wait-requires : tie.Need-wait-requires
 wait-requires c κs = search needs
