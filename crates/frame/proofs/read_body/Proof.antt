@@ -1,5 +1,5 @@
 -- The frame after its header, by the tests and the calls that were made. Assumes nothing.
-use Prim.Native.Nat.{ℕ, _*_, _≤_}
+use Prim.Native.Nat.{ℕ, _+_, _*_, _≤_}
 use native.Mathlib.Nat.{mul-le-mul}
 use native.Mathlib.Omega.{arith}
 use mathlib.Core.Bool.{true}
@@ -11,8 +11,10 @@ use borrow.Author.Tests.{not-true, not-false}
 use lib.IntN.{ℤ}
 use lib.ListN.{length, take, drop}
 use lib.Seq.{length-take-le}
-use Rattle.reading.specs.Places.{gotAt, placeOf, runAt}
-use Rattle.reading.proofs.ByteRuns.{and-fst}
+use Rattle.reading.specs.Readers.{bits}
+use Rattle.reading.specs.Places.{position, gotAt, placeOf, runAt}
+use Rattle.reading.proofs.ByteRuns.{In, stays-in, and-fst}
+use Rattle.reading.proofs.BitsTaken.{bits-there, bits-short}
 use Rattle.rfc9639.specs.declared.FrameHeader.{FrameHeader}
 use Rattle.rfc9639.specs.declared.Settings.{Settings}
 use Rattle.rfc9639.specs.declared.StreamBlock.{StreamBlock}
@@ -22,7 +24,6 @@ use Rattle.rfc9639.specs.Frame.{body}
 use Rattle.demands.proofs.Headers.{Sound, header-sound}
 use Rattle.demands.proofs.StreamRecords.{completed-count, completed-sound, read-bits}
 use Rattle.demands.proofs.StreamSettings.{size-in-range}
-use Rattle.input.proofs.Callers.{bit-is}
 use Rattle.subframe.specs.Answers.{Left}
 use Rattle.frame.proofs.StreamBlocks.{first-fits}
 use Rattle.frame.proofs.AnswerCases.{no-bits, other-bits, larger-block, no-room, no-first-bit, body-read, body-refused}
@@ -143,25 +144,25 @@ returns-3 c =
 fits : (c : tie.Else4) → sampleCount (h (checked (c .before))) ≤ length (lent (checked (c .before)))
 fits c = omega (arith, count-is (checked (c .before)), c .if4 .left)
 
-read-bits-requires : tie.Need-read-bits-requires
-read-bits-requires c κs = search needs
-
-enum-told : tie.Need-enum-told
-enum-told c = search needs
-
-enum-told-2 : tie.Need-enum-told-2
-enum-told-2 c = search needs
+-- the header ends within the input, so the next bit is there if the byte is
+module _ (k : tie.After-channel-count) where
+  ends-in : In (bytes k) (start k .args .at)
+  ends-in = stays-in header (bytes k) (placeOf 0) (header-is k)
 
 returns-4 : tie.Need-returns-4
 returns-4 c =
-    let r = c .before .before in let i = r .before in let e = i .before in let k = checked e in
-    no-first-bit (set k) (bytes k) (lent k) (ok k) (header-is k) (whole k) (some (deep e)) (equal (e .before .before)) (within e) (fits i) (bit-is (bytes k) _ (r .read-bits .ensures) (c .enum-told2 .given .1))
+    let i = c .before .before in let e = i .before in let k = checked e in
+    no-first-bit (set k) (bytes k) (lent k) (ok k) (header-is k) (whole k) (some (deep e)) (equal (e .before .before)) (within e) (fits i) (bits-short 1 (ends-in k) (omega (arith, c .if5 .taken)))
+
+-- the first bit is there
+first-bit : (c : tie.Else5) → let k = checked (c .before .before .before) in (v : ℕ) × (runAt (bits 1) (bytes k) (start k .args .at) ≡ gotAt v (placeOf (position (start k .args .at) + 1)))
+first-bit c = let k = checked (c .before .before .before) in bits-there 1 (ends-in k) (omega (arith, c .if5 .left, ends-in k .bit))
 
 -- The product fits with the stream's size, and with the block's own: so a reader that takes its own is refused by the
 -- promise, and not here.
 first-sample-requires : tie.Need-first-sample-requires
 first-sample-requires c κs =
-    let e = c .before .before .before .before in let k = checked e in let f = sound k (some (deep e)) in
+    let e = c .before .before .before in let k = checked e in let f = sound k (some (deep e)) in
     search (needs, first-fits (set k .block) _ (in-range k) (f .number), first-fits (StreamBlock.Known (h k .size)) _ (size-in-range (f .some) (f .size)) (f .number))
 
 slice-relend-prefix-decode-body : tie.Need-slice-relend-prefix-decode-body
@@ -169,21 +170,21 @@ slice-relend-prefix-decode-body c = search needs
 
 slice-aggregate-decode-body : tie.Need-slice-aggregate-decode-body
 slice-aggregate-decode-body c =
-    let i = c .before .before .before .before .before in let k = checked (i .before) in
+    let i = c .before .before .before .before in let k = checked (i .before) in
     sym (length-take-le (count k) (lent k) (i .if4 .left))
 
 decode-body-requires : tie.Need-decode-body-requires
 decode-body-requires c κs =
-    let i = c .before .before .before .before .before in let k = checked (i .before) in let f = sound k (some (deep (i .before))) in
+    let i = c .before .before .before .before in let k = checked (i .before) in let f = sound k (some (deep (i .before))) in
     (f .mono, f .bits, part-is k (i .if4 .left))
 
 -- a body whose decoding has begun
 module _ (c : tie.After-decode-body) where
-  abbrev after-bit : tie.After-enum-told
+  abbrev after-bit : tie.Else5
   after-bit = c .before .before .before
 
   abbrev inner : tie.Else4
-  inner = after-bit .before .before .before
+  inner = after-bit .before .before
 
   abbrev known : tie.After-channel-count
   known = checked (inner .before)
@@ -215,7 +216,7 @@ same-length c = search needs
 returns-5 : tie.Need-returns-5
 returns-5 c =
     let g = c .before in let d = g .before .before .before in let t = after-bit d in let k = known d in let e = inner d .before in
-    body-read (set k) (bytes k) (lent k) (ok k) (header-is k) (whole k) (some (deep e)) (equal (e .before .before)) (within e) (fits (inner d)) (bit-is (bytes k) _ (t .before .before .read-bits .ensures) (t .enum-told .given .1))
+    body-read (set k) (bytes k) (lent k) (ok k) (header-is k) (whole k) (some (deep e)) (equal (e .before .before)) (within e) (fits (inner d)) (first-bit t .1)
     (left d) (stands d) (g .decoded .given .1) (long d) (d .before .before .first-sample .ensures) (k .channel-count .ensures)
 
 same-length-2 : tie.Need-same-length-2
@@ -224,7 +225,7 @@ same-length-2 c = search needs
 returns-6 : tie.Need-returns-6
 returns-6 c =
     let g = c .before in let d = g .before .before .before in let t = after-bit d in let k = known d in let e = inner d .before in
-    body-refused (set k) (bytes k) (lent k) (ok k) (header-is k) (whole k) (some (deep e)) (equal (e .before .before)) (within e) (fits (inner d)) (bit-is (bytes k) _ (t .before .before .read-bits .ensures) (t .enum-told .given .1))
+    body-refused (set k) (bytes k) (lent k) (ok k) (header-is k) (whole k) (some (deep e)) (equal (e .before .before)) (within e) (fits (inner d)) (first-bit t .1)
     (left d) (stands d) (g .decoded2 .given .1)
 
 pub read-body-spec : {M : Type 1} → statement M
@@ -240,9 +241,6 @@ read-body-spec =
     block-fits-requires
     returns-2
     returns-3
-    read-bits-requires
-    enum-told
-    enum-told-2
     returns-4
     first-sample-requires
     slice-relend-prefix-decode-body
