@@ -1,15 +1,15 @@
 -- The card's first bytes: the mark and STREAMINFO, and the stream header by what follows them. Assumes nothing.
-use Prim.Native.Nat.{ℕ, _+_, _^_, _≤_, _<_}
+use Prim.Native.Nat.{ℕ, _+_, _<_}
 use native.Mathlib.Omega.{arith}
 use mathlib.Core.Logic.{_⊎_, inl, inr, ⊎-elim}
-use mathlib.Core.Path.{_≡_, refl, ap, sym, _∙_, subst}
-use mathlib.Core.Bool.{Bool, true, _&&_}
+use mathlib.Core.Path.{_≡_, ap, sym, _∙_, subst}
+use mathlib.Core.Bool.{Bool, true}
 use mathlib.Core.List.{List, _++_, append-assoc}
 use borrow.Author.Tests.{le-leb}
 use lib.ListN.{length, take}
 use Rattle.reading.specs.declared.Place.{Place}
 use Rattle.reading.specs.Readers.{Ask, done, _>>=_}
-use Rattle.reading.specs.Places.{position, placeOf, At, gotAt, refusedAt, shortAt, runAt}
+use Rattle.reading.specs.Places.{placeOf, gotAt, refusedAt, shortAt, runAt}
 use Rattle.reading.proofs.ByteRuns.{runAt-done, stays-in, bind-got, bind-refused, bind-short}
 use Rattle.reading.proofs.BytePrefixes.{runAt-append}
 use Rattle.reading.proofs.Postconditions.{Meets, holds-at}
@@ -25,10 +25,9 @@ use Rattle.frame_list.specs.declared.Card.{Card}
 use Rattle.frame_list.specs.declared.How.{How}
 use Rattle.frame_list.specs.declared.Last.{Last}
 use Rattle.frame_list.specs.declared.opening.Skip.{Skip}
-use Rattle.frame_list.specs.declared.opening.Skipped.{Skipped}
 use Rattle.frame_list.specs.declared.opening.StartTurn.{StartTurn}
-use Rattle.frame_list.specs.CardProgress.{Sound, Continues, Wanting, Closes}
-use Rattle.frame_list.specs.Opening.{byteAt, blocksAfter, blocksFrom, Tells, SkipsAll, SkipsTo, Waits, Refusing, Unfound, Unstarted, Unmarked, NotFound, Found, StartTurns, Bare, Headed, HeaderOver, Stream}
+use Rattle.frame_list.specs.CardProgress.{Sound, Continues, Wanting}
+use Rattle.frame_list.specs.Opening.{byteAt, blocksAfter, blocksFrom, Tells, SkipsAll, SkipsTo, Waits, Refusing, Unstarted, Unmarked, NotFound, Found, StartTurns, Bare, Headed, HeaderOver, Stream}
 use Rattle.frame_list.proofs.MetadataBlocks.{refused-short, refused-number}
 
 -- ---- a refusal of the start
