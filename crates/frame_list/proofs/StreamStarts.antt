@@ -2,7 +2,7 @@
 use Prim.Native.Nat.{ℕ, _+_, _<_}
 use native.Mathlib.Omega.{arith}
 use mathlib.Core.Logic.{_⊎_, inl, inr, ⊎-elim}
-use mathlib.Core.Path.{_≡_, ap, sym, _∙_, subst}
+use mathlib.Core.Path.{_≡_, refl, ap, sym, _∙_, subst}
 use mathlib.Core.Bool.{Bool, true}
 use mathlib.Core.List.{List, _++_, append-assoc}
 use borrow.Author.Tests.{le-leb}
@@ -27,7 +27,7 @@ use Rattle.frame_list.specs.declared.Last.{Last}
 use Rattle.frame_list.specs.declared.opening.Skip.{Skip}
 use Rattle.frame_list.specs.declared.opening.StartTurn.{StartTurn}
 use Rattle.frame_list.specs.CardProgress.{Sound, Continues, Wanting}
-use Rattle.frame_list.specs.Opening.{byteAt, blocksAfter, blocksFrom, Tells, SkipsAll, SkipsTo, Waits, Refusing, Unstarted, Unmarked, NotFound, Found, StartTurns, Bare, Headed, HeaderOver, Stream}
+use Rattle.frame_list.specs.Opening.{toldCard, byteAt, blocksAfter, blocksFrom, Tells, SkipsAll, SkipsTo, Waits, Refusing, Unstarted, Unmarked, NotFound, Found, StartTurns, Bare, Headed, HeaderOver, Stream}
 use Rattle.frame_list.proofs.MetadataBlocks.{refused-short, refused-number}
 
 -- ---- a refusal of the start
@@ -68,7 +68,7 @@ module _ (s : List ℕ) where
     pub start-some : 0 < pass
     start-some = let x = start-takes .taken s (placeOf 0) (last, info) (byteAt pass) start in omega (arith, x .1, x .2)
 
-    pub start-bits : bitsInRange (StreamRecord.Known (info .bits) (info .rate)) ≡ true
+    start-bits : bitsInRange (StreamRecord.Known (info .bits) (info .rate)) ≡ true
     unfolding bitsInRange
     start-bits =
         let k : InfoInRange info = subst (Meets StreamRefusal (λ (x : Bool × StreamInfo). InfoInRange (x .1))) start (holds-at StreamRefusal (λ (x : Bool × StreamInfo). InfoInRange (x .1)) s (placeOf 0) start-holds) in
@@ -169,7 +169,7 @@ module _ (was : List ℕ) (info : StreamInfo) (skip : Skip) (h : Headed info ski
   abbrev first : List ℕ
   first = take (skip .card .held) was
 
-  pub header-all : (next : Card) (left : List ℕ) → SkipsAll first skip next left → Stream info next left
+  pub header-all : (next : Card) (left : List ℕ) → SkipsAll first skip next left → Stream info (toldCard info next) left
   header-all next left a = record {
     head = a .head;
     long = a .long;
@@ -177,8 +177,8 @@ module _ (was : List ℕ) (info : StreamInfo) (skip : Skip) (h : Headed info ski
         ap streamHeaderOf
         (sym (append-assoc (a .head) (take (next .held) left) more) ∙ ap (λ (s : List ℕ). s ++ more) (a .joined) ∙ append-assoc first (a .added) more)
         ∙ header-ends (first ++ (a .added ++ more)) (start-got first (a .added ++ more) (h .start)) (a .all more);
-    sound = a .sound;
-    bits = start-bits first (h .start);
+    tells = refl;
+    sound = record { held-fits = a .sound .held-fits; numbered = a .sound .numbered; bits = start-bits first (h .start) };
   }
 
   header-tells : (added : List ℕ) (how : How) → Tells (λ s. blocksFrom (skip .last) s (skip .pass)) (first ++ added) how → Tells streamHeaderOf (first ++ added) how
