@@ -95,8 +95,9 @@ fn escaped(judge: &mut Judge, family: usize, draw: &mut Draw, pen: &mut Pen) {
 /// Frames whose bits are left to the stream: whole, cut short, and with bits changed after the header and the check sums
 /// corrected. claxon reads the same frames with the bits in the header.
 fn left_bits(judge: &mut Judge, family: usize, draw: &mut Draw, pen: &mut Pen) {
+    let sizes = if draw.once_in(8) { Sizes::Mixed } else { Sizes::Tiny };
     let extreme = draw.once_in(4);
-    let written = single(draw, pen, Taste { extreme, ..if draw.once_in(8) { MIXED } else { TINY } });
+    let written = single(draw, pen, Taste { sizes, extreme, ..MIXED });
     let bits = [0, 8, 12, 0, 16, 20, 24, 0][usize::from(pen.bytes[3] >> 1 & 7)];
     let without = |coded: &[u8]| {
         let mut left = coded.to_vec();

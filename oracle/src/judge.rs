@@ -241,7 +241,8 @@ impl Judge {
         };
         let unknown = ReadSettings::new();
         let blocks = if kind == 0 { unknown } else { unknown.with_block(size) };
-        let settings = ReadSettings { stream: self.record(asked.head.map(|head| head.bits)), ..blocks };
+        let record = self.record(asked.head.map(|head| head.bits));
+        let settings = record.map_or(blocks, |record| blocks.with_stream(record));
         let (_, entry) = self.hold(asked, &settings, room);
         self.others[kind] += 1;
         if let Some(entry @ (Entry::ShortBlock | Entry::LargerBlock | Entry::OtherBits)) = entry {

@@ -81,7 +81,8 @@ pub fn made(draw: &mut Draw) -> Vec<u8> {
     let mut bytes = MARK.to_vec();
     bytes.extend(info_block(draw, count == 0));
     for i in 0..count {
-        bytes.extend(later(draw, i + 1 == count && !draw.once_in(8)));
+        let last = i + 1 == count && !draw.once_in(8);
+        bytes.extend(later(draw, last));
     }
     match draw.below(18) {
         0 => bytes[draw.below(4) as usize] ^= 1 << draw.below(8),

@@ -179,11 +179,17 @@ pub const LISTED: [&str; 7] = [
     "the contents of a first block of another type",
 ];
 
-/// The entry by which claxon's answer is not the one due.
-pub fn entry(due: &Result<Header, u8>, said: &Said) -> Option<Entry> {
+/// Whether a STREAMINFO of 34 bytes comes first and has fewer than 4 bits.
+fn has_few_bits(bytes: &[u8]) -> bool {
+    bytes.len() >= 22 && bytes[4] & 0x7F == 0 && bytes[5..8] == [0, 0, 34] && number(&bytes[20..22]) >> 4 & 31 < 3
+}
+
+/// The entry by which claxon's answer is not the one due for these bytes.
+pub fn entry(bytes: &[u8], due: &Result<Header, u8>, said: &Said) -> Option<Entry> {
     let why = match (due, said) {
         (Err(4 | 9), Said::Short) => return Some(Entry::JudgedEarly),
-        (Err(9), Said::Header(_)) => return Some(Entry::FewBits),
+        // claxon goes on, and may find something else after it.
+        (Err(9), Said::Header(_) | Said::Refused(_)) if has_few_bits(bytes) => return Some(Entry::FewBits),
         (_, Said::Refused(why)) => *why,
         _ => return None,
     };

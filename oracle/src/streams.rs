@@ -39,7 +39,7 @@ impl Judge {
             (Err(number), said) => said.number() == Some(*number),
             _ => false,
         };
-        let entry = if agrees { None } else { entry(&due, &said) };
+        let entry = if agrees { None } else { entry(bytes, &due, &said) };
         if ours != due || !(agrees || entry.is_some()) {
             println!("a difference off the list, input {}", self.inputs);
             println!("input  {}", hex(bytes));

@@ -1,4 +1,4 @@
--- What the definition of a frame guarantees by itself.
+-- What the definition of a frame, and of the stream header, guarantees by itself.
 pub mod Headers
 pub mod StreamRecords
 pub mod FrameRuns
@@ -11,3 +11,4 @@ pub mod ResultCases
 pub mod StreamSettings
 pub mod Document01
 pub mod SameBits
+pub mod StreamHeaders

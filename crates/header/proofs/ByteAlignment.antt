@@ -1,14 +1,15 @@
 -- Byte alignment: a reader goes from bit i of a byte to bit j of one; header parts are whole bytes. Assumes nothing.
 use Prim.Native.Nat.{ℕ, zero, suc, _+_, _%_}
 use native.Mathlib.Omega.{arith}
-use mathlib.Core.Path.{_≡_, refl, ap, sym, _∙_}
+use mathlib.Core.Path.{_≡_, ap, sym, _∙_}
 use mathlib.Core.Bool.{Bool, true, false, cond}
 use mathlib.Core.List.{List}
 use lib.Dec.{leb, ltb, eqb}
 use Rattle.reading.specs.declared.Place.{Place}
 use Rattle.reading.specs.Readers.{nextBits, Ask, done, stop, ask, _>>=_, bits, require}
-use Rattle.reading.specs.Places.{gotAt, inside, runAt}
-use Rattle.reading.proofs.ByteRuns.{In, inside-in, stays-in, runAt-out, runAt-done, runAt-stop, bind-parts, bits-end}
+use Rattle.reading.specs.Places.{gotAt, runAt}
+use Rattle.reading.proofs.ByteRuns.{In, stays-in, runAt-done, runAt-stop, bind-parts, bits-end}
+use Rattle.reading.proofs.BitsTaken.{starts-in}
 use Rattle.rfc9639.specs.Number.{withFollowers, numberFrom, codedNumber}
 use Rattle.rfc9639.specs.HeaderCodes.{bitDepth, blockSize, rateBits}
 use Rattle.rfc9639.specs.Header.{sync, sizeAndRate, depthAndZero, channelsAndBits, codes, blockTime}
@@ -42,14 +43,6 @@ moves-if true h g = h
 moves-if false h g = g
 
 -- ---- what a move says of a run
-
--- what was got was read from a place inside the input
-starts-in : {A : Type 0} (p : Ask A) (s : List ℕ) (at : Place) {a : A} {q : Place} → runAt p s at ≡ gotAt a q → In s at
-starts-in p s at {a} {q} e = go (inside s at) refl
-  where
-    go : (b : Bool) → inside s at ≡ b → In s at
-    go true t = inside-in s at t
-    go false t = absurd (let d = runAt-out p s at t in let z : _≡_ {A = ℕ} 0 1 = cc in omega arith)
 
 module _ {A : Type 0} (s : List ℕ) {a : A} {q : Place} {j : ℕ} where
   moves-run : {i : ℕ} {p : Ask A} → Moves i j p → (at : Place) → In s at → at .bit ≡ i → runAt p s at ≡ gotAt a q → q .bit ≡ j

@@ -1,5 +1,6 @@
 -- READ-BACK, for the code: `read_frame` gets the samples back from what `write_frame` wrote, under the settings that the
--- frame is readable under. Assumes nothing.
+-- frame is readable under. Other bits in the stream's record are refused, and under fixed blocking a size given below the
+-- frame's. Assumes nothing.
 use Prim.Native.Nat.{ℕ, _≤_, _<_}
 use native.Mathlib.Omega.{arith}
 use mathlib.Core.Path.{_≡_, refl, ap, sym, _∙_}

@@ -25,7 +25,7 @@ use Rattle.promises.proofs.Outcomes.{ReadFrame, reads}
 abbrev pub SameButRate : ReadAnswer → List ℤ → ReadAnswer → List ℤ → Type 0
 SameButRate r left r′ left′ = (unratedReport (reportOf r) ≡ unratedReport (reportOf r′)) × (left ≡ left′)
 
-module _ {block : StreamBlock} {s : List ℕ} {b : List ℤ} where
+module _ (block : StreamBlock) (s : List ℕ) (b : List ℤ) where
   abbrev under : StreamRecord → Settings
   under stream = record { block = block; stream = stream }
 

@@ -1,8 +1,8 @@
 // Shows one read from outside, with all of its buffer. Standard input, numbers little-endian:
 //     room (4), fill (4)                     how many samples are lent, and what each of them holds
 //     block given (1), block (4)             0: the size of the stream's blocks is unknown; 1: it is this one
-//     stream given, bits, rate (1, 1, 4)     for W-206 of document 02: passed over
-//     strict (1)                             for W-210: passed over
+//     stream given, bits, rate (1, 1, 4)     0: the stream has no record; 1: its record has these bits and this rate
+//     strict (1)                             for W-210 of document 02: passed over
 //     wide room (4), wide fill (8)           for W-209: the fill is passed over
 //     the frame's bytes                      at most 65,536; more is left unread
 // Bytes that are missing before the frame count as zeros. Written:
@@ -11,13 +11,14 @@
 //     eight parts (8 each)                   for W-213: zeros
 //     samples (4 each)                       all that were lent
 //     wide room places (8 each)              for W-209: zeros
-// If a room is above 65,536, or the flag `block given` is neither 0 nor 1, the only byte written is 11.
+// If a room is above 65,536, or the flag `block given` or `stream given` is neither 0 nor 1, the only byte written is 11.
 use frame::ReadAnswer;
 use libc::STDIN_FILENO;
 use libc::STDOUT_FILENO;
 use rfc9639::FirstSample;
 use rfc9639::Settings;
 use rfc9639::StreamBlock;
+use rfc9639::StreamRecord;
 ghost use mathlib.Core.Path.{_≡_};
 ghost use Prim.Native.Nat.{_+_, _≤_};
 ghost use lib.ListN.{length};
@@ -89,28 +90,33 @@ fn probe(bytes: &[u8], set: Settings, fill: i32, samples: &mut [i32])
     write_samples(samples);
 }
 
+// The number in four bytes.
+fn number_of(a: u8, b: u8, c: u8, d: u8) -> u32 {
+    probe_records::number_from_bytes(a, b, c, d) as u32
+}
+
 // The number in the four bytes from a place on.
-fn number_at(input: &[u8], at: usize) -> usize
+fn number_at(input: &[u8], at: usize) -> u32
     requires { ⌜ at + 4 ≤ length (now input) ⌝ }
 {
-    probe_records::number_from_bytes(
-        input[at],
-        input[at + 1],
-        input[at + 2],
-        input[at + 3],
-    ) as usize
+    number_of(input[at], input[at + 1], input[at + 2], input[at + 3])
 }
 
 // The flag is 0 or 1.
-fn settings_of(given: u8, block: usize) -> Settings {
+fn block_of(given: u8, size: u32) -> StreamBlock {
     if given == 0 {
-        Settings {
-            block: StreamBlock::Unknown,
-        }
+        StreamBlock::Unknown
     } else {
-        Settings {
-            block: StreamBlock::Known(block),
-        }
+        StreamBlock::Known(size as usize)
+    }
+}
+
+// The flag is 0 or 1.
+fn stream_of(given: u8, bits: u8, rate: u32) -> StreamRecord {
+    if given == 0 {
+        StreamRecord::Unknown
+    } else {
+        StreamRecord::Known(bits as u32, rate)
     }
 }
 
@@ -125,15 +131,19 @@ fn end_of(n: usize) -> usize
 fn run(input: &[u8], n: usize, samples: &mut [i32])
     requires { ⌜ (length (now input) ≡ 65568) × ((n ≤ length (now input)) × (length (now samples) ≡ 65536)) ⌝ }
 {
-    let room = number_at(input, 0);
+    let room = number_at(input, 0) as usize;
     let fill = probe_records::sample_from_bytes(input[4], input[5], input[6], input[7]);
-    let given = input[8];
-    let wide = number_at(input, 20);
-    if 65536 < room || 65536 < wide || 1 < given {
+    let block_given = input[8];
+    let stream_given = input[13];
+    let wide = number_at(input, 20) as usize;
+    if 65536 < room || 65536 < wide || 1 < block_given || 1 < stream_given {
         io::write_all(STDOUT_FILENO, &[11]);
         return;
     }
-    let set = settings_of(given, number_at(input, 9));
+    let set = Settings {
+        block: block_of(block_given, number_at(input, 9)),
+        stream: stream_of(stream_given, input[14], number_at(input, 15)),
+    };
     let end = end_of(n);
     probe(&input[32..end], set, fill, &mut samples[..room]);
     write_zeros(wide);

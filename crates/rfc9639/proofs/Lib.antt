@@ -1,5 +1,6 @@
--- Laws of the definition: widths, machine integers, check sums, lengths, the writer's choice, the length bound. And
--- what it computes: the examples that document 01 marks (P), published frames, the order of the checks.
+-- Laws of the definition: widths, machine integers, check sums, lengths, the writer's choice, the length bound, the
+-- parts of a stream header. And what it computes: the examples that document 01 marks (P), published frames, the order
+-- of the checks, stream headers.
 pub mod CheckSums
 pub mod Widths
 pub mod Magnitudes
@@ -19,3 +20,4 @@ pub mod LengthBound
 pub mod FrameBits
 pub mod StreamHeaderBits
 pub mod StreamHeaderValues
+pub mod StreamHeaders

@@ -1,7 +1,6 @@
 -- What holds of every value that the parts of a stream header get, and which refusals they have. Assumes nothing.
 use Prim.Native.Nat.{ℕ, _+_, _*_, _^_, _≤_, _<_}
 use native.Mathlib.Omega.{arith}
-use mathlib.Core.Bool.{Bool}
 use borrow.Author.Tests.{leb-true, ltb-true}
 use lib.Dec.{leb, ltb}
 use Rattle.reading.proofs.Postconditions.{Holds, value, holds-bind, holds-weaken, holds-bits, holds-require}

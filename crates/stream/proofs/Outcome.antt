@@ -11,6 +11,7 @@ use Rattle.stream.specs.Answers.{streamAt, startAt, headAt}
 use Rattle.stream.proofs.read_stream_header
 use Rattle.stream.proofs.read_stream_start
 use Rattle.stream.proofs.read_block_head
+use Rattle.stream.proofs.md5_bytes
 
 -- equal answers have equal values and places
 got-one : {A : Type 0} {a b : A} {p q : Place} → gotAt a p ≡ gotAt b q → (a ≡ b) × (p ≡ q)
@@ -43,3 +44,6 @@ read-stream-start-one κs args r r′ left left′ p q = (startAt-one r r′ (on
 
 pub read-block-head-one : OneOutcome read_block_head.ended read_block_head.Reads.Learnt
 read-block-head-one κs args r r′ left left′ p q = (headAt-one r r′ (one-value p q), refl)
+
+pub md5-bytes-one : OneOutcome md5_bytes.ended md5_bytes.Reads.Learnt
+md5-bytes-one κs args r r′ left left′ p q = (one-value p q, refl)

@@ -21,11 +21,11 @@ use rfc9639::Sizes;
 use rfc9639::StreamInfo;
 ghost use mathlib.Core.Path.{_≡_};
 ghost use mathlib.Core.Bool.{true};
-ghost use Prim.Native.Nat.{_≤_, _<_};
+ghost use Prim.Native.Nat.{_/_, _%_, _≤_, _<_};
 ghost use lib.ListN.{length};
 ghost use Rattle.reading.specs.Places.{inside, runAt, placeOf};
 ghost use Rattle.rfc9639.specs.StreamHeader.{mark, sizes, rateChannelsAndBits, md5, streamInfo, lastAndType, firstBlock, blockHead, skippedBlock, skippedBlocks, streamStart, streamHeaderOf};
-ghost use Rattle.stream.specs.Answers.{streamAt, startAt, headAt};
+ghost use Rattle.stream.specs.Answers.{streamAt, startAt, headAt, md5Bytes};
 ghost use Rattle.stream.specs.Private.{passedAt, sizesAt, md5At, formatAt, infoAt, lastAndTypeAt, firstBlockAt, skippedAt};
 
 // A stream header and how many bytes it takes, or why there is none.
@@ -298,4 +298,36 @@ pub fn read_stream_header(s: &[u8]) -> StreamRead
         }
         StartRead::Refused(e) => StreamRead::Refused(e),
     }
+}
+
+// A byte of a number: what is left of it over d, without the higher bytes.
+fn byte_over(v: u64, d: u64) -> u8
+    requires { ⌜ 0 < d ⌝ }
+    ensures { λ r. ⌜ r ≡ v / d % 256 ⌝ }
+{
+    (v / d % 256) as u8
+}
+
+// The 16 bytes of an MD5, as they are stored.
+pub fn md5_bytes(sum: Md5) -> [u8; 16]
+    ensures { λ r. ⌜ r ≡ md5Bytes sum ⌝ }
+{
+    [
+        byte_over(sum.high, 0x100_0000_0000_0000),
+        byte_over(sum.high, 0x1_0000_0000_0000),
+        byte_over(sum.high, 0x100_0000_0000),
+        byte_over(sum.high, 0x1_0000_0000),
+        byte_over(sum.high, 0x100_0000),
+        byte_over(sum.high, 0x1_0000),
+        byte_over(sum.high, 0x100),
+        byte_over(sum.high, 1),
+        byte_over(sum.low, 0x100_0000_0000_0000),
+        byte_over(sum.low, 0x1_0000_0000_0000),
+        byte_over(sum.low, 0x100_0000_0000),
+        byte_over(sum.low, 0x1_0000_0000),
+        byte_over(sum.low, 0x100_0000),
+        byte_over(sum.low, 0x1_0000),
+        byte_over(sum.low, 0x100),
+        byte_over(sum.low, 1),
+    ]
 }

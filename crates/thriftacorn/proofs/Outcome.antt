@@ -5,11 +5,15 @@ use mathlib.Core.Path.{_≡_, refl, ap}
 use Rattle.reading.proofs.Outcome.{OneOutcome, one-value}
 use Rattle.rfc9639.specs.Write.{Written}
 use Rattle.block.specs.Reports.{ChannelReport, SampleReport, PairReport}
+use Rattle.thriftacorn.specs.Exports.{StreamNumbers}
 use Rattle.thriftacorn.proofs.read.thriftacorn_read_frame_v1 as read-frame
 use Rattle.thriftacorn.proofs.read.thriftacorn_read_next_v1 as read-next
 use Rattle.thriftacorn.proofs.read.thriftacorn_read_frame_v2 as read-frame-v2
 use Rattle.thriftacorn.proofs.read.thriftacorn_read_next_v2 as read-next-v2
+use Rattle.thriftacorn.proofs.read.thriftacorn_read_frame_v3 as read-frame-v3
+use Rattle.thriftacorn.proofs.read.thriftacorn_read_next_v3 as read-next-v3
 use Rattle.thriftacorn.proofs.read.thriftacorn_stream_block_v1 as stream-block
+use Rattle.thriftacorn.proofs.stream_header.thriftacorn_read_stream_header_v1 as read-stream-header
 use Rattle.thriftacorn.proofs.write.thriftacorn_write_frame_v1 as write-frame
 use Rattle.thriftacorn.proofs.write.thriftacorn_longest_v1 as longest
 use Rattle.thriftacorn.proofs.samples.thriftacorn_channel_v1 as channel
@@ -46,6 +50,30 @@ read-next-v2-one κs args r r′ left left′ p q =
     let k = one-value (p .frame .flag) (q .frame .flag) in
     let m = moved-one _ (p .moved) (q .moved) (λ i. e i .consumed) in
     (λ i. e i .refusal, λ i. (tt, (m i, (tt, (tt, (s i, (e i .consumed, (k i, (e i .first, (e i .channels, (e i .bits, (e i .size, tt))))))))))))
+
+pub read-frame-v3-one : OneOutcome read-frame-v3.ended read-frame-v3.Reads.Learnt
+read-frame-v3-one κs args r r′ left left′ p q =
+    let e = one-value (p .answer .numbers) (q .answer .numbers) in
+    let s = one-value (p .answer .samples) (q .answer .samples) in
+    let k = one-value (p .flag) (q .flag) in
+    let f = one-value (p .rate-flag) (q .rate-flag) in
+    let h = one-value (p .hertz) (q .hertz) in
+    (λ i. e i .refusal, λ i. (tt, (tt, (tt, (tt, (tt, (tt, (s i, (e i .consumed, (k i, (e i .first, (f i, (h i, (e i .channels, (e i .bits, (e i .size, tt))))))))))))))))
+
+pub read-next-v3-one : OneOutcome read-next-v3.ended read-next-v3.Reads.Learnt
+read-next-v3-one κs args r r′ left left′ p q =
+    let e = one-value (p .frame .answer .numbers) (q .frame .answer .numbers) in
+    let s = one-value (p .frame .answer .samples) (q .frame .answer .samples) in
+    let k = one-value (p .frame .flag) (q .frame .flag) in
+    let f = one-value (p .frame .rate-flag) (q .frame .rate-flag) in
+    let h = one-value (p .frame .hertz) (q .frame .hertz) in
+    let m = moved-one _ (p .moved) (q .moved) (λ i. e i .consumed) in
+    (λ i. e i .refusal, λ i. (tt, (m i, (tt, (tt, (tt, (tt, (tt, (s i, (e i .consumed, (k i, (e i .first, (f i, (h i, (e i .channels, (e i .bits, (e i .size, tt)))))))))))))))))
+
+pub read-stream-header-v1-one : OneOutcome read-stream-header.ended read-stream-header.Reads.Learnt
+read-stream-header-v1-one κs args r r′ left left′ p q =
+    let e : _≡_ {A = StreamNumbers} _ _ = one-value p q in
+    (λ i. e i .refusal, λ i. (tt, (e i .consumed, (e i .smallest, (e i .largest, (e i .shortest, (e i .longest, (e i .rate, (e i .channels, (e i .bits, (e i .samples, (e i .high, (e i .low, tt)))))))))))))
 
 pub stream-block-v1-one : OneOutcome stream-block.ended stream-block.Reads.Learnt
 stream-block-v1-one κs args r r′ left left′ p q =

@@ -1,11 +1,13 @@
 -- The reports of answers: they are those of the definition's outcome. Assumes nothing.
 use Prim.Native.Nat.{ℕ, _+_, _-_, _≤_}
 use native.Mathlib.Omega.{arith}
-use mathlib.Core.Path.{_≡_, ap, sym, _∙_, subst}
+use mathlib.Core.Path.{_≡_, refl, ap, sym, _∙_, subst}
 use mathlib.Core.List.{List}
 use lib.IntN.{ℤ}
 use lib.ListN.{length, take, drop, length-drop, drop-of-length-le}
 use lib.Seq.{take-all}
+use Rattle.error.specs.declared.Refusal.{Refusal}
+use Rattle.error.specs.Numbers.{numberOf, refusedBy}
 use Rattle.rfc9639.specs.declared.Settings.{Settings}
 use Rattle.rfc9639.specs.declared.StreamBlock.{StreamBlock}
 use Rattle.rfc9639.specs.declared.StreamRecord.{StreamRecord}
@@ -21,7 +23,7 @@ use Rattle.walk.specs.Steps.{Steps}
 use Rattle.frame_writer.specs.declared.WriteAnswer.{WriteAnswer}
 use Rattle.frame_writer.specs.Outcomes.{outcome}
 use Rattle.rfc9639.specs.Stream.{firstKnown}
-use Rattle.thriftacorn.specs.Exports.{blockKnown, blockNumber, settingsOf, rateKnown, rateNumber, ReadNumbers, numbersOf, Returned, ReadFrameV1, ReadNextV1, ReadFrameV2, ReadNextV2, ReadFrameV3, ReadNextV3, StreamBlockV1}
+use Rattle.thriftacorn.specs.Exports.{blockKnown, blockNumber, settingsOf, rateKnown, rateNumber, ReadNumbers, numbersOf, Returned, ReadFrameV1, ReadNextV1, ReadFrameV2, ReadNextV2, ReadFrameV3, ReadNextV3, StreamBlockV1, noStream, streamNumbers}
 use Rattle.thriftacorn.specs.Private.{ReportedAs}
 
 -- ---- the settings of a stream
@@ -85,6 +87,24 @@ module _ {refusal consumed known first rated rate channels bits size : ℕ} {lef
       → ReportedAs (r .answer) refusal consumed known first rated rate channels bits size
       → ReadNextV3 s place given b refusal (r .place) consumed known first rated rate channels bits size left
   next-v3 f h e = record { frame = frame-v3 f (h .answer) e; moved = moves h e }
+
+-- ---- the stream header
+
+-- a refusal has its number, and a header that is cut short has 2
+pub refusal-numbers : (e : Refusal) → noStream (numberOf e) ≡ streamNumbers (refusedBy e)
+refusal-numbers Refusal.NothingLeft = refl
+refusal-numbers Refusal.CutShort = refl
+refusal-numbers Refusal.NotSync = refl
+refusal-numbers Refusal.Reserved = refl
+refusal-numbers Refusal.BadNumber = refl
+refusal-numbers Refusal.HeaderSum = refl
+refusal-numbers Refusal.NoRoom = refl
+refusal-numbers Refusal.NotDone = refl
+refusal-numbers Refusal.BadShape = refl
+refusal-numbers Refusal.FrameSum = refl
+refusal-numbers Refusal.BadArgument = refl
+refusal-numbers Refusal.SampleRange = refl
+refusal-numbers Refusal.OutputRoom = refl
 
 -- ---- what is written, and access to samples
 

@@ -44,7 +44,7 @@ module _ (c : tie.After-channel-count) where
   bytes = start .args .s .now
 
   abbrev lent : List ℤ
-  lent = start .args .samples .now
+  lent = start .args .out .now
 
   abbrev set : Settings
   set = start .args .set

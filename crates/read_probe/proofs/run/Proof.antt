@@ -10,6 +10,9 @@ use Rattle.read_probe.proofs.run.Tie as tie
 number-at-requires : tie.Need-number-at-requires
 number-at-requires c κs = search needs
 
+cast-room : tie.Need-cast-room
+cast-room c = search needs
+
 shared-slice-read-sample-from-bytes : tie.Need-shared-slice-read-sample-from-bytes
 shared-slice-read-sample-from-bytes c = search needs
 
@@ -25,11 +28,17 @@ shared-slice-read-sample-from-bytes-4 c = search needs
 sample-from-bytes-requires : tie.Need-sample-from-bytes-requires
 sample-from-bytes-requires c κs = search needs
 
-shared-slice-read-given : tie.Need-shared-slice-read-given
-shared-slice-read-given c = search needs
+shared-slice-read-block-given : tie.Need-shared-slice-read-block-given
+shared-slice-read-block-given c = search needs
+
+shared-slice-read-stream-given : tie.Need-shared-slice-read-stream-given
+shared-slice-read-stream-given c = search needs
 
 number-at-requires-2 : tie.Need-number-at-requires-2
 number-at-requires-2 c κs = search needs
+
+cast-wide : tie.Need-cast-wide
+cast-wide c = search needs
 
 slice-aggregate-write-all : tie.Need-slice-aggregate-write-all
 slice-aggregate-write-all c = search needs
@@ -43,8 +52,17 @@ returns c = search needs
 number-at-requires-3 : tie.Need-number-at-requires-3
 number-at-requires-3 c κs = search needs
 
-settings-of-requires : tie.Need-settings-of-requires
-settings-of-requires c κs = search needs
+block-of-requires : tie.Need-block-of-requires
+block-of-requires c κs = search needs
+
+shared-slice-read-stream-of : tie.Need-shared-slice-read-stream-of
+shared-slice-read-stream-of c = search needs
+
+number-at-requires-4 : tie.Need-number-at-requires-4
+number-at-requires-4 c κs = search needs
+
+stream-of-requires : tie.Need-stream-of-requires
+stream-of-requires c κs = search needs
 
 end-of-requires : tie.Need-end-of-requires
 end-of-requires c κs = search needs
@@ -81,18 +99,24 @@ run-spec =
     tie.close
     (tie.spec
     number-at-requires
+    cast-room
     shared-slice-read-sample-from-bytes
     shared-slice-read-sample-from-bytes-2
     shared-slice-read-sample-from-bytes-3
     shared-slice-read-sample-from-bytes-4
     sample-from-bytes-requires
-    shared-slice-read-given
+    shared-slice-read-block-given
+    shared-slice-read-stream-given
     number-at-requires-2
+    cast-wide
     slice-aggregate-write-all
     write-all-requires
     returns
     number-at-requires-3
-    settings-of-requires
+    block-of-requires
+    shared-slice-read-stream-of
+    number-at-requires-4
+    stream-of-requires
     end-of-requires
     sub-probe
     part-probe-start

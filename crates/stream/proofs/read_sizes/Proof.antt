@@ -2,7 +2,6 @@
 use Prim.Native.Nat.{_≤_}
 use borrow.Author.Needs.{needs}
 use native.Mathlib.Nat.{lt-of-lt-of-le}
-use native.Mathlib.Omega.{arith}
 use lib.Pow.{pow-mono}
 use mathlib.Core.Path.{_≡_, sym, _∙_}
 use Rattle.reading.specs.Readers.{bits}

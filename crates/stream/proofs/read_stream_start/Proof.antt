@@ -7,7 +7,7 @@ use Rattle.reading.proofs.ByteRuns.{bind-got}
 use Rattle.reading.proofs.ReaderSteps.{answer-is}
 use Rattle.reading.proofs.BitsTaken.{takes-weaken, ends-at-byte}
 use Rattle.error.proofs.Refusals.{bind-refusal}
-use Rattle.rfc9639.specs.StreamHeader.{mark, firstBlock, streamStart}
+use Rattle.rfc9639.specs.StreamHeader.{mark, streamStart}
 use Rattle.rfc9639.proofs.StreamHeaderBits.{start-takes}
 use Rattle.stream.specs.Private.{passedAt, firstBlockAt}
 use Rattle.stream.proofs.read_stream_start.Statement.{statement}

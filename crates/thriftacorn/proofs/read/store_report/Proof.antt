@@ -5,7 +5,7 @@ use Rattle.rfc9639.specs.Read.{refusal}
 use Rattle.frame.specs.declared.ReadAnswer.{ReadAnswer}
 use Rattle.frame.specs.Reads.{reportOf}
 use Rattle.rfc9639.specs.Stream.{firstKnown}
-use Rattle.thriftacorn.specs.Exports.{numbersOf}
+use Rattle.thriftacorn.specs.Exports.{rateKnown, rateNumber, numbersOf}
 use Rattle.thriftacorn.proofs.read.store_report.Statement.{statement}
 use Rattle.thriftacorn.proofs.read.store_report.Tie as tie
 
@@ -18,6 +18,12 @@ first-known-requires c κs = search needs
 first-number-requires : tie.Need-first-number-requires
 first-number-requires c κs = search needs
 
+rate-known-requires : tie.Need-rate-known-requires
+rate-known-requires c κs = search needs
+
+rate-number-requires : tie.Need-rate-number-requires
+rate-number-requires c κs = search needs
+
 enum-known-answer-2 : tie.Need-enum-known-answer-2
 enum-known-answer-2 c = search needs
 
@@ -26,10 +32,12 @@ number-of-requires c κs = search needs
 
 returns : tie.Need-returns
 returns c =
-    let e = sym (c .before .before .before .answer .given .1) in
+    let e = sym (c .before .before .before .before .before .answer .given .1) in
     record {
-      numbers = rw (c .first-number .ensures) (ap (λ (a : ReadAnswer). numbersOf (reportOf a)) e);
-      flag = rw (c .before .first-known .ensures) (ap (λ (a : ReadAnswer). firstKnown (reportOf a .first)) e);
+      numbers = rw (c .before .before .first-number .ensures) (ap (λ (a : ReadAnswer). numbersOf (reportOf a)) e);
+      flag = rw (c .before .before .before .first-known .ensures) (ap (λ (a : ReadAnswer). firstKnown (reportOf a .first)) e);
+      rate-flag = rw (c .before .rate-known .ensures) (ap (λ (a : ReadAnswer). rateKnown (reportOf a .rate)) e);
+      hertz = rw (c .rate-number .ensures) (ap (λ (a : ReadAnswer). rateNumber (reportOf a .rate)) e);
     }
 
 returns-2 : tie.Need-returns-2
@@ -39,6 +47,8 @@ returns-2 c =
     record {
       numbers = rw (c .number-of .ensures) (ap (λ (a : ReadAnswer). numbersOf (reportOf a)) e);
       flag = ap (λ (a : ReadAnswer). firstKnown (reportOf a .first)) e;
+      rate-flag = ap (λ (a : ReadAnswer). rateKnown (reportOf a .rate)) e;
+      hertz = ap (λ (a : ReadAnswer). rateNumber (reportOf a .rate)) e;
     }
 
 pub store-report-spec : {M : Type 1} → statement M
@@ -48,6 +58,8 @@ store-report-spec =
     enum-known-answer
     first-known-requires
     first-number-requires
+    rate-known-requires
+    rate-number-requires
     enum-known-answer-2
     number-of-requires
     returns

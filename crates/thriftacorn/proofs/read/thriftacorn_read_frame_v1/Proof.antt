@@ -18,7 +18,7 @@ same-length c = search needs
 
 returns : tie.Need-returns
 returns c =
-    let read = c .before .before .before .before .before .before .before .before in
+    let read = c .before .before .before .before .before .before .before .before .before .before in
     let a = read .before .before .before .before .args in
     frame-v1 (a .bytes .now) (a .samples .now) (read .before .before .stream-settings .ensures) (read .read-frame .ensures) (c .store-report .ensures)
 

@@ -18,7 +18,7 @@ same-length c = search needs
 
 returns : tie.Need-returns
 returns c =
-    let read = c .before .before .before .before .before .before .before .before in
+    let read = c .before .before .before .before .before .before .before .before .before .before in
     frame-v2 (read .before .before .settings-of .ensures) (read .read-frame .ensures) (c .store-report .ensures)
 
 pub thriftacorn-read-frame-v2-spec : {M : Type 1} → statement M

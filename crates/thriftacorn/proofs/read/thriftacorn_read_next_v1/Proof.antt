@@ -18,7 +18,7 @@ same-length c = search needs
 
 returns : tie.Need-returns
 returns c =
-    let read = c .before .before .before .before .before .before .before .before in
+    let read = c .before .before .before .before .before .before .before .before .before .before in
     next-v1 (read .before .before .settings-at .ensures) (read .read-next .ensures) (c .store-report .ensures)
 
 pub thriftacorn-read-next-v1-spec : {M : Type 1} → statement M

@@ -18,7 +18,7 @@ same-length c = search needs
 
 returns : tie.Need-returns
 returns c =
-    let read = c .before .before .before .before .before .before .before .before in
+    let read = c .before .before .before .before .before .before .before .before .before .before in
     next-v2 (read .before .before .before .settings-of .ensures) (read .read-next .ensures) (c .store-report .ensures)
 
 pub thriftacorn-read-next-v2-spec : {M : Type 1} → statement M
