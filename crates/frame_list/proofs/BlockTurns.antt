@@ -1,14 +1,14 @@
 -- Looks at the window while metadata blocks are passed: each moves on along the card, and what the card has from there on
 -- stays the same. Assumes nothing.
-use Prim.Native.Nat.{ℕ, _+_, _-_, _^_, _≤_, _<_, min}
+use Prim.Native.Nat.{ℕ, _+_, _-_, _≤_, _<_, min}
 use native.Mathlib.Omega.{arith}
 use native.Mathlib.Nat.{zero-add}
 use mathlib.Core.Path.{_≡_, refl, ap, ap₂, sym, _∙_, subst}
 use mathlib.Core.Bool.{Bool, true, false}
-use mathlib.Core.List.{List, [], _∷_, _++_, append-assoc, append-nil}
+use mathlib.Core.List.{List, [], _++_, append-assoc, append-nil}
 use lib.ListN.{length, take, drop, length-append, take-append-drop}
-use lib.Seq.{length-take-le, take-take}
-use Rattle.reading.specs.Places.{At, gotAt, refusedAt, shortAt}
+use lib.Seq.{length-take-le}
+use Rattle.reading.specs.Places.{gotAt, refusedAt, shortAt}
 use Rattle.error.specs.declared.Refusal.{Refusal}
 use Rattle.error.specs.Numbers.{numberOf}
 use Rattle.frame_list.specs.declared.Card.{Card}
@@ -17,8 +17,8 @@ use Rattle.frame_list.specs.declared.Last.{Last}
 use Rattle.frame_list.specs.declared.Turn.{Turn}
 use Rattle.frame_list.specs.declared.opening.Skip.{Skip}
 use Rattle.frame_list.specs.declared.opening.SkipTurn.{SkipTurn}
-use Rattle.frame_list.specs.CardProgress.{Sound, ahead, Continues, Wanting, Closes, Refills}
-use Rattle.frame_list.specs.Opening.{byteAt, blocksFrom, HopsTo, Refilled, Moves, Moved, Arrives, Lacking, Stuck, Passes, Tells, GoesOn, ToFrames, Ends, SkipTurns, SkipsAll, SkipsTo}
+use Rattle.frame_list.specs.CardProgress.{Sound, Continues, Wanting, Closes, Refills}
+use Rattle.frame_list.specs.Opening.{byteAt, blocksFrom, HopsTo, Refilled, Moves, Arrives, Lacking, Stuck, Passes, Tells, GoesOn, ToFrames, Ends, SkipTurns, SkipsAll, SkipsTo}
 use Rattle.frame_list.proofs.CardTurns.{refills-on, refills-over, window-kept, fresh, window-joined}
 use Rattle.frame_list.proofs.MetadataBlocks.{from-past, from-end, window-short}
 

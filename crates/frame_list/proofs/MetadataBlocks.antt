@@ -5,15 +5,14 @@ use native.Mathlib.Omega.{arith}
 use mathlib.Core.Path.{_≡_, refl, ap, sym, _∙_, subst}
 use mathlib.Core.Bool.{Bool, true, false, true≢false}
 use mathlib.Core.List.{List, _++_}
-use borrow.Author.Tests.{leb-true, leb-false, eq-eqb, ne-eqb}
-use lib.Dec.{ltb, leb}
+use borrow.Author.Tests.{eq-eqb, ne-eqb}
+use lib.Dec.{ltb}
 use lib.ListN.{length}
 use Rattle.reading.specs.declared.Place.{Place}
-use Rattle.reading.specs.Readers.{Ask, done, _>>=_, bits}
-use Rattle.reading.specs.Places.{position, placeOf, At, gotAt, refusedAt, shortAt, runAt}
-use Rattle.reading.proofs.ByteRuns.{In, outside-end, place-is, position-place, runAt-done, runAt-out, stays-in, runAt-bind, bind-is, bind-got, bind-refused, bind-short}
+use Rattle.reading.specs.Readers.{Ask, done, _>>=_}
+use Rattle.reading.specs.Places.{position, placeOf, inside, At, gotAt, refusedAt, shortAt, runAt}
+use Rattle.reading.proofs.ByteRuns.{In, inside-in, outside-end, place-is, position-place, runAt-done, runAt-out, stays-in, runAt-bind, bind-is, bind-refused, bind-short}
 use Rattle.reading.proofs.BytePrefixes.{runAt-append}
-use Rattle.reading.proofs.BitsTaken.{bits-there, bits-short}
 use Rattle.reading.proofs.Postconditions.{Meets, holds-at}
 use Rattle.reading.proofs.Shifted.{Forward, value, forward-bind, forward-bits, forward-require, atFurther, runAt-further}
 use Rattle.rfc9639.specs.StreamHeader.{lastAndType, blockHead, skippedBlock, skippedBlocks}
@@ -23,6 +22,7 @@ use Rattle.error.specs.declared.Refusal.{Refusal}
 use Rattle.error.specs.Numbers.{numberOf, refusedBy}
 use Rattle.stream.specs.declared.BlockHead.{BlockHead}
 use Rattle.stream.specs.Answers.{headAt}
+use Rattle.stream.proofs.SkippedBlocks.{block-there, block-cut}
 use Rattle.frame_list.specs.Opening.{byteAt, blocksAfter, blocksFrom, HopsTo}
 
 -- ---- a block's head
@@ -51,7 +51,7 @@ head-is s at {last} {size} {end} e =
       few = subst (Meets StreamRefusal (λ (y : Bool × ℕ). y .1 < 2 ^ 24)) e (holds-at StreamRefusal (λ (y : Bool × ℕ). y .1 < 2 ^ 24) s (byteAt at) head-holds);
     }
 
--- ---- its contents
+-- ---- the start of a byte is in a card or past it
 
 module _ (s : List ℕ) (at : ℕ) where
   byte-in : at ≤ length s → In s (byteAt at)
@@ -60,33 +60,27 @@ module _ (s : List ℕ) (at : ℕ) where
   byte-out : {A : Type 0} (p : Ask A) → length s < at → runAt p s (byteAt at) ≡ shortAt
   byte-out p h = runAt-out p s (byteAt at) (outside-end s (byteAt at) (omega arith) (omega arith))
 
-  -- a reader after some bytes that are not looked at reads from the byte after them
-  pub after-bytes : {A : Type 0} (size : ℕ) (p : Ask A) → at ≤ length s → runAt (bits (8 * size) >>= (λ _. p)) s (byteAt at) ≡ runAt p s (byteAt (at + size))
-  after-bytes size p h = go (leb (at + size) (length s)) refl
-    where
-      go : (b : Bool) → leb (at + size) (length s) ≡ b → runAt (bits (8 * size) >>= (λ _. p)) s (byteAt at) ≡ runAt p s (byteAt (at + size))
-      go true e =
-          let x = bits-there (8 * size) (byte-in h) (omega (arith, leb-true (at + size) (length s) e)) in
-          bind-got (bits (8 * size)) s (byteAt at) (λ _. p)
-          (x .1 ∙ ap (gotAt (x .0)) (sym (place-is (at + size) 0 (position (byteAt at) + 8 * size) (omega arith) (omega arith))))
-      go false e =
-          let k = leb-false (at + size) (length s) e in
-          bind-short (bits (8 * size)) s (byteAt at) (λ _. p) (bits-short (8 * size) (byte-in h) (omega arith))
-          ∙ sym (runAt-out p s (byteAt (at + size)) (outside-end s (byteAt (at + size)) (omega arith) (omega arith)))
-
 -- ---- the blocks after a head
 
 module _ (s : List ℕ) (at : ℕ) where
-  -- what follows the first of them, by its head
-  pub blocks-after : (n : ℕ) {last : Bool} {size : ℕ} {end : Place} → runAt blockHead s (byteAt at) ≡ gotAt (last, size) end
-      → runAt (skippedBlocks (suc n)) s (byteAt at) ≡ runAt (blocksAfter last n) s (byteAt (at + 4 + size))
-  unfolding skippedBlocks skippedBlock blocksAfter _>>=_
-  blocks-after n {last} {size} {end} e =
-      let h = head-is s at e in
-      let contents : Bool × ℕ → Ask Bool = λ x. bits (8 * x .1) >>= (λ _. done (x .0)) in
-      let block : runAt skippedBlock s (byteAt at) ≡ runAt (done last) s (byteAt (at + 4 + size)) =
-      bind-got blockHead s (byteAt at) contents e ∙ ap (runAt (contents (last, size)) s) (h .ends) ∙ after-bytes s (at + 4) size (done last) (h .there) in
-      bind-is skippedBlock s (byteAt at) (λ l. blocksAfter l n) block ∙ sym (runAt-bind (done last) s (byteAt (at + 4 + size)) (λ l. blocksAfter l n))
+  module _ {last : Bool} {size : ℕ} {end : Place} (e : runAt blockHead s (byteAt at) ≡ gotAt (last, size) end) where
+    -- the first of them is there whole if the place after it is in the card
+    after-block : runAt skippedBlock s (byteAt at) ≡ runAt (done last) s (byteAt (at + 4 + size))
+    after-block = go (inside s next) refl ∙ ap (λ (p : Place). runAt (done last) s (record { byte = p .byte + size; bit = p .bit })) (head-is s at e .ends)
+      where
+        next : Place
+        next = record { byte = end .byte + size; bit = end .bit }
+
+        go : (b : Bool) → inside s next ≡ b → runAt skippedBlock s (byteAt at) ≡ runAt (done last) s next
+        go true t = block-there s (byteAt at) e t ∙ sym (runAt-done last (inside-in s next t))
+        go false t = block-cut s (byteAt at) e t ∙ sym (runAt-out (done last) s next t)
+
+    -- what follows it, by its head
+    pub blocks-after : (n : ℕ) → runAt (skippedBlocks (suc n)) s (byteAt at) ≡ runAt (blocksAfter last n) s (byteAt (at + 4 + size))
+    unfolding skippedBlocks blocksAfter _>>=_
+    blocks-after n =
+        bind-is skippedBlock s (byteAt at) (λ l. blocksAfter l n) after-block
+        ∙ sym (runAt-bind (done last) s (byteAt (at + 4 + size)) (λ l. blocksAfter l n))
 
   pub blocks-refused : (n m : ℕ) → runAt blockHead s (byteAt at) ≡ refusedAt m → runAt (skippedBlocks (suc n)) s (byteAt at) ≡ refusedAt m
   unfolding skippedBlocks skippedBlock
@@ -110,7 +104,7 @@ count-free s (suc n) (suc m) at h g = go (λ next k. count-free s n m next (omeg
 
     go : ((next : ℕ) → at + 4 ≤ next → runAt (skippedBlocks n) s (byteAt next) ≡ runAt (skippedBlocks m) s (byteAt next))
         → (x : At (Bool × ℕ)) → runAt blockHead s (byteAt at) ≡ x → runAt (skippedBlocks (suc n)) s (byteAt at) ≡ runAt (skippedBlocks (suc m)) s (byteAt at)
-    go again (gotAt (last, size) end) e = blocks-after s at n e ∙ after again last (at + 4 + size) (omega arith) ∙ sym (blocks-after s at m e)
+    go again (gotAt (last, size) end) e = blocks-after s at e n ∙ after again last (at + 4 + size) (omega arith) ∙ sym (blocks-after s at e m)
     go again (refusedAt k) e = blocks-refused s at n k e ∙ sym (blocks-refused s at m k e)
     go again shortAt e = blocks-short s at n e ∙ sym (blocks-short s at m e)
 
@@ -133,7 +127,7 @@ module _ (s : List ℕ) (at : ℕ) where
     pub from-next : {last : Bool} {size : ℕ} {end : Place} → runAt blockHead s (byteAt at) ≡ gotAt (last, size) end
         → blocksFrom false s at ≡ blocksFrom last s (at + 4 + size)
     unfolding blocksFrom
-    from-next e = one-more ∙ blocks-after s at (length s) e
+    from-next e = one-more ∙ blocks-after s at e (length s)
 
     pub from-refused : {m : ℕ} → runAt blockHead s (byteAt at) ≡ refusedAt m → blocksFrom false s at ≡ refusedAt m
     from-refused {m} e = one-more ∙ blocks-refused s at (length s) m e

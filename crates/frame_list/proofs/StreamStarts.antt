@@ -1,15 +1,15 @@
 -- The card's first bytes: the mark and STREAMINFO, and the stream header by what follows them. Assumes nothing.
-use Prim.Native.Nat.{ℕ, _+_, _^_, _≤_, _<_}
+use Prim.Native.Nat.{ℕ, _+_, _<_}
 use native.Mathlib.Omega.{arith}
 use mathlib.Core.Logic.{_⊎_, inl, inr, ⊎-elim}
 use mathlib.Core.Path.{_≡_, refl, ap, sym, _∙_, subst}
-use mathlib.Core.Bool.{Bool, true, _&&_}
+use mathlib.Core.Bool.{Bool, true}
 use mathlib.Core.List.{List, _++_, append-assoc}
 use borrow.Author.Tests.{le-leb}
 use lib.ListN.{length, take}
 use Rattle.reading.specs.declared.Place.{Place}
 use Rattle.reading.specs.Readers.{Ask, done, _>>=_}
-use Rattle.reading.specs.Places.{position, placeOf, At, gotAt, refusedAt, shortAt, runAt}
+use Rattle.reading.specs.Places.{placeOf, gotAt, refusedAt, shortAt, runAt}
 use Rattle.reading.proofs.ByteRuns.{runAt-done, stays-in, bind-got, bind-refused, bind-short}
 use Rattle.reading.proofs.BytePrefixes.{runAt-append}
 use Rattle.reading.proofs.Postconditions.{Meets, holds-at}
@@ -25,10 +25,9 @@ use Rattle.frame_list.specs.declared.Card.{Card}
 use Rattle.frame_list.specs.declared.How.{How}
 use Rattle.frame_list.specs.declared.Last.{Last}
 use Rattle.frame_list.specs.declared.opening.Skip.{Skip}
-use Rattle.frame_list.specs.declared.opening.Skipped.{Skipped}
 use Rattle.frame_list.specs.declared.opening.StartTurn.{StartTurn}
-use Rattle.frame_list.specs.CardProgress.{Sound, Continues, Wanting, Closes}
-use Rattle.frame_list.specs.Opening.{byteAt, blocksAfter, blocksFrom, Tells, SkipsAll, SkipsTo, Waits, Refusing, Unfound, Unstarted, Unmarked, NotFound, Found, StartTurns, Bare, Headed, HeaderOver, Stream}
+use Rattle.frame_list.specs.CardProgress.{Sound, Continues, Wanting}
+use Rattle.frame_list.specs.Opening.{toldCard, byteAt, blocksAfter, blocksFrom, Tells, SkipsAll, SkipsTo, Waits, Refusing, Unstarted, Unmarked, NotFound, Found, StartTurns, Bare, Headed, HeaderOver, Stream}
 use Rattle.frame_list.proofs.MetadataBlocks.{refused-short, refused-number}
 
 -- ---- a refusal of the start
@@ -69,7 +68,7 @@ module _ (s : List ℕ) where
     pub start-some : 0 < pass
     start-some = let x = start-takes .taken s (placeOf 0) (last, info) (byteAt pass) start in omega (arith, x .1, x .2)
 
-    pub start-bits : bitsInRange (StreamRecord.Known (info .bits) (info .rate)) ≡ true
+    start-bits : bitsInRange (StreamRecord.Known (info .bits) (info .rate)) ≡ true
     unfolding bitsInRange
     start-bits =
         let k : InfoInRange info = subst (Meets StreamRefusal (λ (x : Bool × StreamInfo). InfoInRange (x .1))) start (holds-at StreamRefusal (λ (x : Bool × StreamInfo). InfoInRange (x .1)) s (placeOf 0) start-holds) in
@@ -170,7 +169,7 @@ module _ (was : List ℕ) (info : StreamInfo) (skip : Skip) (h : Headed info ski
   abbrev first : List ℕ
   first = take (skip .card .held) was
 
-  pub header-all : (next : Card) (left : List ℕ) → SkipsAll first skip next left → Stream info next left
+  pub header-all : (next : Card) (left : List ℕ) → SkipsAll first skip next left → Stream info (toldCard info next) left
   header-all next left a = record {
     head = a .head;
     long = a .long;
@@ -178,8 +177,8 @@ module _ (was : List ℕ) (info : StreamInfo) (skip : Skip) (h : Headed info ski
         ap streamHeaderOf
         (sym (append-assoc (a .head) (take (next .held) left) more) ∙ ap (λ (s : List ℕ). s ++ more) (a .joined) ∙ append-assoc first (a .added) more)
         ∙ header-ends (first ++ (a .added ++ more)) (start-got first (a .added ++ more) (h .start)) (a .all more);
-    sound = a .sound;
-    bits = start-bits first (h .start);
+    tells = refl;
+    sound = record { held-fits = a .sound .held-fits; numbered = a .sound .numbered; bits = start-bits first (h .start) };
   }
 
   header-tells : (added : List ℕ) (how : How) → Tells (λ s. blocksFrom (skip .last) s (skip .pass)) (first ++ added) how → Tells streamHeaderOf (first ++ added) how

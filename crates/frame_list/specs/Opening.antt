@@ -16,7 +16,6 @@ use Rattle.rfc9639.specs.declared.SampleRate.{SampleRate}
 use Rattle.rfc9639.specs.declared.StreamBlock.{StreamBlock}
 use Rattle.rfc9639.specs.declared.StreamInfo.{StreamInfo}
 use Rattle.rfc9639.specs.declared.StreamRecord.{StreamRecord}
-use Rattle.rfc9639.specs.Stream.{bitsInRange}
 use Rattle.rfc9639.specs.StreamHeader.{blockHead, skippedBlocks, streamStart, streamHeaderOf}
 use Rattle.frame_list.specs.declared.Totals.{Totals}
 use Rattle.frame_list.specs.declared.Card.{Card}
@@ -46,6 +45,10 @@ told info = record {
   block = StreamBlock.Unknown;
   stream = StreamRecord.Known (info .bits) (info .rate);
 }
+
+-- the card where the frames start
+abbrev pub toldCard : StreamInfo → Card → Card
+toldCard info card = record { base = card .base; held = card .held; rest = card .rest; totals = told info }
 
 -- ---- the metadata blocks after the first
 
@@ -239,13 +242,14 @@ Starts left (Started.Bare card) = Bare card (length left) × Unmarked card (take
 Starts left (Started.Header info skip) = Headed info skip left
 Starts left (Started.Over end) = HeaderOver end
 
--- The stream header is that of all the card's bytes, those before the window among them, and ends where the window starts.
+-- The stream header is that of all the card's bytes, those before the window among them. It ends where the window starts,
+-- and the frames are read with what it tells.
 pub record Stream (info : StreamInfo) (card : Card) (left : List ℕ) : Type 0 where
   pub head : List ℕ
   pub long : length head ≡ card .base
   pub all : (more : List ℕ) → streamHeaderOf (head ++ (take (card .held) left ++ more)) ≡ gotAt info (byteAt (card .base))
+  pub tells : card .totals ≡ told info
   pub sound : Sound card (length left)
-  pub bits : bitsInRange (StreamRecord.Known (info .bits) (info .rate)) ≡ true
 
 abbrev pub Opens : List ℕ → Opening → Type 0
 Opens left (Opening.Bare card) = Bare card (length left) × Unmarked card (take (card .held) left)

@@ -30,7 +30,6 @@ use report::Said;
 use rfc9639::SampleRate;
 use rfc9639::Settings;
 use rfc9639::StreamBlock;
-use rfc9639::StreamInfo;
 use rfc9639::StreamRecord;
 use window::Rest;
 ghost use Prim.Native.Nat.{_+_, _*_, _^_, _<_, _≤_};
@@ -39,7 +38,6 @@ ghost use lib.ListN.{length, take};
 ghost use Rattle.frame_list.specs.declared.window.Rest.{Rest as RestOf};
 ghost use Rattle.frame_list.specs.Listing.{capped, rateWith, withFrame, blockFor, Lists};
 ghost use Rattle.frame_list.specs.CardProgress.{Sound, Stays, Refills, Turns, Runs};
-ghost use Rattle.frame_list.specs.Opening.{told, knownRate};
 
 // How many bytes of the card are in memory at a time. Eight channels of 65,535 verbatim samples of 24 bits take at most
 // 1,572,866.
@@ -107,6 +105,14 @@ pub enum Turn {
 pub enum Opened {
     At(i32),
     Failed(i32),
+}
+
+// What the first argument asks for.
+pub enum Word {
+    Help,
+    Input,
+    Unknown,
+    Name,
 }
 
 // A sum that stops at the largest number of 64 bits.
@@ -368,29 +374,7 @@ fn list_from(fd: i32, start: Card, said: Said, window: &mut [u8], samples: &mut 
     write_last_line(last);
 }
 
-// What the stream header tells of the frames. A rate of 0 tells nothing.
-fn totals_of(info: StreamInfo) -> Totals
-    ensures { λ r. ⌜ r ≡ told info ⌝ }
-{
-    Totals {
-        frames: 0,
-        samples: 0,
-        length: 0,
-        rate: known_rate(info.rate),
-        block: StreamBlock::Unknown,
-        stream: StreamRecord::Known(info.bits, info.rate),
-    }
-}
-
-fn known_rate(rate: u32) -> SampleRate
-    ensures { λ r. ⌜ r ≡ knownRate rate ⌝ }
-{
-    if rate == 0 {
-        return SampleRate::Unknown;
-    }
-    SampleRate::Known(rate)
-}
-
+// The stream header, if there is one, and the frames.
 fn list_card(fd: i32, window: &mut [u8], samples: &mut [i32])
     requires { ⌜ length (now window) < 2 ^ 64 ⌝ }
 {
@@ -399,14 +383,7 @@ fn list_card(fd: i32, window: &mut [u8], samples: &mut [i32])
         Opening::Bare(card) => list_from(fd, card, Said::Nothing, window, samples),
         Opening::Stream(info, card) => {
             report::stream_line(card.base, info);
-            let rest = card.rest;
-            let start = Card {
-                base: card.base,
-                held: card.held,
-                rest,
-                totals: totals_of(info),
-            };
-            list_from(fd, start, Said::Samples(info.samples), window, samples);
+            list_from(fd, card, Said::Samples(info.samples), window, samples);
         }
         Opening::Over(last) => write_header_over(last),
     }
@@ -417,14 +394,7 @@ fn list_into(fd: i32, window: &mut [u8; WINDOW], samples: &mut [i32; ROOM]) {
     list_card(fd, window, samples);
 }
 
-// What the first argument asks for.
-pub enum Word {
-    Help,
-    Input,
-    Unknown,
-    Name,
-}
-
+// What a first argument is, by its first bytes.
 fn word_of(text: &[u8]) -> Word {
     if text.len() == 0 {
         return Word::Name;

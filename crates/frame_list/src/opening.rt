@@ -22,7 +22,7 @@ ghost use mathlib.Core.Path.{_≡_};
 ghost use lib.Dec.{eqb};
 ghost use lib.ListN.{length, take};
 ghost use Rattle.frame_list.specs.CardProgress.{Sound, pending};
-ghost use Rattle.frame_list.specs.Opening.{Hops, Moves, Arrives, Passes, SkipTurns, Skips, Waits, Unstarted, StartTurns, Starts, Opens};
+ghost use Rattle.frame_list.specs.Opening.{told, knownRate, toldCard, Hops, Moves, Arrives, Passes, SkipTurns, Skips, Waits, Unstarted, StartTurns, Starts, Opens};
 
 // Where the next metadata block starts in the window, or, after the last one, the first frame: `true`. The place may be
 // past the bytes that are held. Or why there is no such block.
@@ -280,6 +280,42 @@ fn read_start(fd: i32, window: &mut [u8]) -> Started
     }
 }
 
+// What the stream header tells of the frames. A rate of 0 tells nothing.
+fn totals_of(info: StreamInfo) -> Totals
+    ensures { λ r. ⌜ r ≡ told info ⌝ }
+{
+    Totals {
+        frames: 0,
+        samples: 0,
+        length: 0,
+        rate: known_rate(info.rate),
+        block: StreamBlock::Unknown,
+        stream: StreamRecord::Known(info.bits, info.rate),
+    }
+}
+
+fn known_rate(rate: u32) -> SampleRate
+    ensures { λ r. ⌜ r ≡ knownRate rate ⌝ }
+{
+    if rate == 0 {
+        return SampleRate::Unknown;
+    }
+    SampleRate::Known(rate)
+}
+
+// The card where the frames start, with what the stream header tells of them.
+fn told_card(info: StreamInfo, card: Card) -> Card
+    ensures { λ r. ⌜ r ≡ toldCard info card ⌝ }
+{
+    let rest = card.rest;
+    Card {
+        base: card.base,
+        held: card.held,
+        rest,
+        totals: totals_of(info),
+    }
+}
+
 // Reads the card up to where its frames start.
 pub fn read_opening(fd: i32, window: &mut [u8]) -> Opening
     requires { ⌜ length (now window) < 2 ^ 64 ⌝ }
@@ -291,7 +327,7 @@ pub fn read_opening(fd: i32, window: &mut [u8]) -> Opening
         Started::Header(info, skip) => {
             let skipped = skip_blocks(fd, skip, window);
             match skipped {
-                Skipped::Frames(card) => Opening::Stream(info, card),
+                Skipped::Frames(card) => Opening::Stream(info, told_card(info, card)),
                 Skipped::Over(last) => Opening::Over(last),
             }
         }

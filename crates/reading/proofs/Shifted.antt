@@ -10,7 +10,7 @@ use lib.Dec.{leb, ltb}
 use lib.ListN.{length, drop, length-append}
 use lib.Seq.{drop-append-add}
 use Rattle.reading.specs.declared.Place.{Place}
-use Rattle.reading.specs.Readers.{Question, nextBits, nextZeros, Ask, done, stop, ask, seen, _>>=_, bits, require, Reply, found, cut, bitsFrom, zerosFrom, reply, RunResult, got, refused, short, follow, run}
+use Rattle.reading.specs.Readers.{Question, nextBits, nextZeros, Ask, done, stop, ask, _>>=_, bits, require, Reply, found, cut, bitsFrom, zerosFrom, reply, RunResult, got, refused, short, follow, run}
 use Rattle.reading.specs.Bytes.{bitsOfBytes}
 use Rattle.reading.specs.Places.{position, placeOf, inside, At, gotAt, refusedAt, shortAt, toAt, runAt}
 use Rattle.reading.proofs.Bits.{length-bitsOfBytes}

@@ -1,7 +1,5 @@
 -- `frames::list_card` meets what its callees require: the window is sound where the frames start. Assumes nothing.
-use mathlib.Core.Path.{ap, _∙_, subst}
-use Rattle.rfc9639.specs.Stream.{bitsInRange}
-use Rattle.frame_list.specs.declared.Totals.{Totals}
+use mathlib.Core.Path.{subst}
 use Rattle.frame_list.specs.Opening.{Opens}
 use borrow.Author.Needs.{needs}
 use Rattle.frame_list.proofs.list_card.Statement.{statement}
@@ -24,17 +22,10 @@ enum-known-opening-2 c = search needs
 stream-line-requires : tie.Need-stream-line-requires
 stream-line-requires c κs = search needs
 
-totals-of-requires : tie.Need-totals-of-requires
-totals-of-requires c κs = search needs
-
 list-from-requires-2 : tie.Need-list-from-requires-2
 list-from-requires-2 c κs =
-    let o = subst (Opens (c .before .before .before .before .before .before .before .before .before .read-opening .last .1 .0)) (c .before .before .before .before .before .opening2 .given .1) (c .before .before .before .before .before .before .before .before .before .read-opening .ensures) in
-    record {
-      held-fits = o .sound .held-fits;
-      numbered = o .sound .numbered;
-      bits = ap (λ (t : Totals). bitsInRange (t .stream)) (c .before .before .totals-of .ensures) ∙ o .bits;
-    }
+    let o = subst (Opens (c .before .before .before .before .before .before .before .before .read-opening .last .1 .0)) (c .before .before .before .before .opening2 .given .1) (c .before .before .before .before .before .before .before .before .read-opening .ensures) in
+    o .sound
 
 enum-known-opening-3 : tie.Need-enum-known-opening-3
 enum-known-opening-3 c = search needs
@@ -77,7 +68,6 @@ list-card-spec =
     list-from-requires
     enum-known-opening-2
     stream-line-requires
-    totals-of-requires
     list-from-requires-2
     enum-known-opening-3
     write-header-over-requires

@@ -1,5 +1,4 @@
 -- `frames::with_frame` meets its contract. Assumes nothing.
-use mathlib.Core.Path.{refl, ap, ap₂, _∙_}
 use borrow.Author.Needs.{needs}
 use Rattle.frame_list.proofs.with_frame.Statement.{statement}
 use Rattle.frame_list.proofs.with_frame.Tie as tie

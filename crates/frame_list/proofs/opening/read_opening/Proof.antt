@@ -1,8 +1,9 @@
 -- `frames::opening::read_opening` meets its contract: the start, and the blocks after it. Assumes nothing.
-use mathlib.Core.Path.{subst}
+use mathlib.Core.Path.{sym, subst}
 use lib.ListN.{take}
+use Rattle.frame_list.specs.declared.Card.{Card}
 use Rattle.frame_list.specs.declared.opening.Skipped.{Skipped}
-use Rattle.frame_list.specs.Opening.{Starts, Skips}
+use Rattle.frame_list.specs.Opening.{Starts, Skips, Stream}
 use Rattle.frame_list.proofs.StreamStarts.{start-some, header-all, header-over}
 use borrow.Author.Needs.{needs}
 use Rattle.frame_list.proofs.opening.read_opening.Statement.{statement}
@@ -27,6 +28,9 @@ skip-blocks-requires c κs =
 enum-known-skipped : tie.Need-enum-known-skipped
 enum-known-skipped c = search needs
 
+told-card-requires : tie.Need-told-card-requires
+told-card-requires c κs = search needs
+
 enum-known-skipped-2 : tie.Need-enum-known-skipped-2
 enum-known-skipped-2 c = search needs
 
@@ -44,13 +48,13 @@ same-length-2 c = search needs
 
 returns-2 : tie.Need-returns-2
 returns-2 c =
-    let s = c .before .before .before .before .before .before .before .before .before .before .before .before in
-    let m = c .before .before .before .before .before .before .before .before in
-    let k = c .before .before .before .before .before in
+    let s = c .before .before .before .before .before .before .before .before .before .before .before .before .before in
+    let m = c .before .before .before .before .before .before .before .before .before in
+    let k = c .before .before .before .before .before .before in
     let info = m .started2 .given .0 .0 in
     let skip = m .started2 .given .0 .1 .0 in
     let h = subst (Starts (s .read-start .last .1 .0)) (m .started2 .given .1) (s .read-start .ensures) in
-    header-all (s .read-start .last .1 .0) info skip h (c .before .skipped .given .0 .0) (k .skip-blocks .last .1 .1 .0) (subst (λ (r : Skipped). Skips (take (skip .card .held) (s .read-start .last .1 .0)) skip r (k .skip-blocks .last .1 .1 .0)) (c .before .skipped .given .1) (k .skip-blocks .ensures))
+    subst (λ (r : Card). Stream info r (k .skip-blocks .last .1 .1 .0)) (sym (c .told-card .ensures)) (header-all (s .read-start .last .1 .0) info skip h (c .before .before .skipped .given .0 .0) (k .skip-blocks .last .1 .1 .0) (subst (λ (r : Skipped). Skips (take (skip .card .held) (s .read-start .last .1 .0)) skip r (k .skip-blocks .last .1 .1 .0)) (c .before .before .skipped .given .1) (k .skip-blocks .ensures)))
 
 same-length-3 : tie.Need-same-length-3
 same-length-3 c = search needs
@@ -80,6 +84,7 @@ read-opening-spec =
     enum-known-started-2
     skip-blocks-requires
     enum-known-skipped
+    told-card-requires
     enum-known-skipped-2
     enum-known-started-3
     same-length

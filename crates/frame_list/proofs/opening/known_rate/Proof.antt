@@ -1,7 +1,7 @@
--- `frames::known_rate` meets its contract. Assumes nothing.
+-- `frames::opening::known_rate` meets its contract. Assumes nothing.
 use borrow.Author.Tests.{eq-eqb, ne-eqb}
-use Rattle.frame_list.proofs.known_rate.Statement.{statement}
-use Rattle.frame_list.proofs.known_rate.Tie as tie
+use Rattle.frame_list.proofs.opening.known_rate.Statement.{statement}
+use Rattle.frame_list.proofs.opening.known_rate.Tie as tie
 
 returns : tie.Need-returns
 returns c = rw (eq-eqb (c .before .args .rate) 0 (c .if1 .taken))

@@ -1,7 +1,7 @@
--- `frames::totals_of` meets its contract. Assumes nothing.
+-- `frames::opening::totals_of` meets its contract. Assumes nothing.
 use borrow.Author.Needs.{needs}
-use Rattle.frame_list.proofs.totals_of.Statement.{statement}
-use Rattle.frame_list.proofs.totals_of.Tie as tie
+use Rattle.frame_list.proofs.opening.totals_of.Statement.{statement}
+use Rattle.frame_list.proofs.opening.totals_of.Tie as tie
 
 known-rate-requires : tie.Need-known-rate-requires
 known-rate-requires c κs = search needs
