@@ -2,16 +2,16 @@
 use Prim.Native.Nat.{ℕ, _%_, _≤_, _<_}
 use native.Mathlib.Nat.{mod-eq-of-lt, lt-of-lt-of-le}
 use native.Mathlib.Omega.{arith}
-use mathlib.Core.Path.{_≡_, refl, _∙_, subst}
+use mathlib.Core.Path.{_≡_, refl, ap, _∙_, subst}
 use mathlib.Core.Bool.{Bool, true, false, cond, _||_}
 use mathlib.Core.List.{List}
 use borrow.Author.Tests.{le-leb, lt-leb}
 use lib.Dec.{leb, eqb}
 use lib.Pow.{pow-mono}
 use Rattle.reading.specs.declared.Place.{Place}
-use Rattle.reading.specs.Readers.{done, bits}
+use Rattle.reading.specs.Readers.{nextBits, done, bits, bitsFrom, reply}
 use Rattle.reading.specs.Places.{gotAt, refusedAt, runAt, placeOf}
-use Rattle.reading.proofs.ByteRuns.{bits-below}
+use Rattle.reading.proofs.ByteRuns.{In, position-place, ofReply, runAt-ask, bits-below}
 use Rattle.reading.proofs.Postconditions.{Meets, holds-at}
 use Rattle.rfc9639.specs.declared.BlockTime.the-variants.{FrameNumber, SampleNumber}
 use Rattle.rfc9639.specs.declared.Codes.{Codes}
@@ -55,6 +55,11 @@ rate-few code = go (eqb code 12) (eqb code 13) (eqb code 14)
     go false true c = omega arith
     go false false true = omega arith
     go false false false = omega arith
+
+-- no bits are 0
+pub bits-none : {s : List ℕ} {at : Place} → In s at → runAt (bits 0) s at ≡ gotAt 0 at
+unfolding bits reply bitsFrom ofReply
+bits-none {s} {at} i = runAt-ask (nextBits 0) i ∙ ap (gotAt 0) (position-place at (i .bit))
 
 -- what is stored of it has at most 16 bits
 pub stored-few : (code : ℕ) (s : List ℕ) (at : Place) {v : ℕ} {q : Place} → runAt (bits (rateBits code)) s at ≡ gotAt v q → v % 65536 ≡ v

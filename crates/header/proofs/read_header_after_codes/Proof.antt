@@ -5,7 +5,7 @@ use native.Mathlib.Omega.{arith}
 use mathlib.Core.Path.{_≡_, ap, sym, _∙_}
 use Rattle.reading.specs.Readers.{bits}
 use Rattle.reading.specs.Places.{gotAt, shortAt, runAt}
-use Rattle.reading.proofs.ByteRuns.{bind-got, bind-short}
+use Rattle.reading.proofs.ByteRuns.{in-inside, stays-in, bind-got, bind-short}
 use Rattle.input.proofs.Callers.{read-got, read-short}
 use Rattle.rfc9639.specs.HeaderCodes.{blockSize, rateBits, sampleRate}
 use Rattle.rfc9639.specs.Header.{blockTime, headerSum, headerAfterCodes}
@@ -32,9 +32,6 @@ enum-known-block c = search needs
 
 rate-bits-requires : tie.Need-rate-bits-requires
 rate-bits-requires c κs = search needs
-
-read-bits-requires : tie.Need-read-bits-requires
-read-bits-requires c κs = search needs
 
 enum-known-rate : tie.Need-enum-known-rate
 enum-known-rate c = search needs
@@ -66,20 +63,23 @@ module _ (c : tie.After-block) where
   size-byte : c .block .given .0 .1 .0 .bit ≡ 0
   size-byte = moves-at _ _ _ (size-whole _) (time-byte timed) size-is
 
+read-stored-requires : tie.Need-read-stored-requires
+read-stored-requires c κs = in-inside _ _ (stays-in (blockSize _) _ _ (size-is (c .before .before)))
+
 -- the code says how many bits the rate has
 rate-fits : (c : tie.After-rate-bits) → c .rate-bits .result ≤ 64
 rate-fits c = omega (arith, c .rate-bits .ensures, rate-few (begun (c .before .before) .args .c .rate))
 
 rate-short : (c : tie.After-enum-told)
     → let b = c .before .before .before .before .before in runAt (bits (rateBits (begun b .args .c .rate))) (begun b .args .s .now) (b .block .given .0 .1 .0) ≡ shortAt
-rate-short c = rw (← c .before .before .before .rate-bits .ensures) (read-short _ _ _ (rate-fits (c .before .before .before)) (c .before .before .read-bits .ensures) (c .enum-told .given .1))
+rate-short c = rw (← c .before .before .before .rate-bits .ensures) (read-short _ _ _ (rate-fits (c .before .before .before)) (c .before .before .read-stored .ensures) (c .enum-told .given .1))
 
 module _ (c : tie.After-rate) where
   abbrev sized : tie.After-block
   sized = c .before .before .before .before .before
 
   rate-is : runAt (bits (rateBits (begun sized .args .c .rate))) (begun sized .args .s .now) (sized .block .given .0 .1 .0) ≡ gotAt (c .rate .given .0 .0) (c .rate .given .0 .1 .0)
-  rate-is = rw (← c .before .before .before .rate-bits .ensures) (read-got _ _ _ (rate-fits (c .before .before .before)) (c .before .before .read-bits .ensures) (c .rate .given .1))
+  rate-is = rw (← c .before .before .before .rate-bits .ensures) (read-got _ _ _ (rate-fits (c .before .before .before)) (c .before .before .read-stored .ensures) (c .rate .given .1))
 
   rate-byte : c .rate .given .0 .1 .0 .bit ≡ 0
   rate-byte = moves-at _ _ _ (rate-whole _) (size-byte sized) rate-is
@@ -148,7 +148,7 @@ read-header-after-codes-spec =
     read-block-size-requires
     enum-known-block
     rate-bits-requires
-    read-bits-requires
+    read-stored-requires
     enum-known-rate
     enum-told
     returns
