@@ -347,7 +347,10 @@ static inline uint8_t thriftacorn_read_stream_header(const uint8_t *bytes, size_
     return answer;
 }
 
-/* Settings with the bits and the rate of a stream header, whatever else they say. */
+/*
+ * Puts the bits and the rate of a stream header into the settings, and leaves what else they say. Call it after
+ * thriftacorn_stream_settings(), which sets all fields.
+ */
 static inline void thriftacorn_set_stream(thriftacorn_read_settings *settings, const thriftacorn_stream_info *info)
 {
     settings->stream_given = 1;

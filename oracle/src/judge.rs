@@ -204,7 +204,13 @@ impl Judge {
     }
 
     /// The same where this reader reads other bytes than claxon did, which must have the same answer.
-    fn hold_on(&mut self, asked: &Asked, bytes: &[u8], settings: &ReadSettings, room: usize) -> (Answer, Option<Entry>) {
+    fn hold_on(
+        &mut self,
+        asked: &Asked,
+        bytes: &[u8],
+        settings: &ReadSettings,
+        room: usize,
+    ) -> (Answer, Option<Entry>) {
         let ours = self.ours.read(bytes, settings, room);
         let due = due(asked.bytes, asked.head.as_ref(), settings, room, asked.answer);
         let samples_equal = !matches!(ours, Answer::Frame(_)) || self.ours.samples() == asked.samples;
@@ -260,7 +266,11 @@ impl Judge {
             (1, Some(bits)) => bits,
             (1 | 2, _) => {
                 let bits = self.draw.from(4, 32);
-                if own == Some(bits) { 4 } else { bits }
+                if own == Some(bits) {
+                    4
+                } else {
+                    bits
+                }
             }
             _ => self.draw.pick(&[0, 1, 3, 33, 64, u32::MAX]),
         };

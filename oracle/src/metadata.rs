@@ -45,7 +45,8 @@ pub fn info_block(draw: &mut Draw, last: bool) -> Vec<u8> {
 
 /// Tags, well formed or nearly so.
 fn tags(draw: &mut Draw) -> Vec<u8> {
-    let entries: Vec<&[u8]> = (0..draw.below(4)).map(|_| draw.pick(&[&b"A=owl"[..], b"NIGHT=", b"no sign", b"", b"\x01=x"])).collect();
+    let entries: Vec<&[u8]> =
+        (0..draw.below(4)).map(|_| draw.pick(&[&b"A=owl"[..], b"NIGHT=", b"no sign", b"", b"\x01=x"])).collect();
     let mut bytes = 3u32.to_le_bytes().to_vec();
     bytes.extend(b"bat");
     bytes.extend((entries.len() as u32 + u32::from(draw.once_in(8))).to_le_bytes());
@@ -96,7 +97,9 @@ pub fn made(draw: &mut Draw) -> Vec<u8> {
 /// Headers with long blocks: what claxon holds in memory has a limit, and what it skips has none.
 pub fn blocks(mut with: impl FnMut(&[u8])) {
     let mut draw = Draw::new(1, "long blocks");
-    for (kind, length) in [(1, 0xFF_FFFF), (6, 0xFF_FFFF), (3, 1 << 20), (2, (10 << 20) + 1), (4, (10 << 20) + 1), (2, 3), (2, 4)] {
+    for (kind, length) in
+        [(1, 0xFF_FFFF), (6, 0xFF_FFFF), (3, 1 << 20), (2, (10 << 20) + 1), (4, (10 << 20) + 1), (2, 3), (2, 4)]
+    {
         let mut bytes = MARK.to_vec();
         bytes.extend(info_block(&mut draw, false));
         bytes.extend(head(true, kind, length));

@@ -103,7 +103,9 @@ pub fn due(bytes: &[u8], head: Option<&Head>, settings: &ReadSettings, room: usi
         return refused(number, Some(entry));
     }
     match head.filter(|head| head.bits > 0) {
-        Some(head) if settings.stream.is_some_and(|stream| stream.bits != head.bits) => refused(9, Some(Entry::OtherBits)),
+        Some(head) if settings.stream.is_some_and(|stream| stream.bits != head.bits) => {
+            refused(9, Some(Entry::OtherBits))
+        }
         Some(head) if head.is_larger(settings) => refused(9, Some(Entry::LargerBlock)),
         Some(head) if head.samples > room => refused(7, Some(Entry::Room)),
         _ => placed(head, settings, claxon),

@@ -104,7 +104,16 @@ const WORDS: [&[&str]; 6] = [
     &["-S", "10x", "-S", "500", "-P", "1"],
     &["--picture=3|image/png|an owl|1x1x24|PICTURE", "-P", "100"],
     &["--cuesheet=CUE", "-S", "-", "-T", "X=y"],
-    &["--picture=3|image/png|an owl|1x1x24|PICTURE", "--cuesheet=CUE", "-S", "3x", "-T", "NIGHT=Waldkauz \u{e4}\u{df}", "-P", "9"],
+    &[
+        "--picture=3|image/png|an owl|1x1x24|PICTURE",
+        "--cuesheet=CUE",
+        "-S",
+        "3x",
+        "-T",
+        "NIGHT=Waldkauz \u{e4}\u{df}",
+        "-P",
+        "9",
+    ],
 ];
 
 /// The files: all bits from 4 to 24, most of which the frames leave to the stream header, and 1 to 8 channels.
@@ -138,7 +147,8 @@ fn whole_file(judge: &mut Judge, folder: &Path, draw: &mut Draw, file: &File) ->
     }
     let mut read = Vec::new();
     for block in stream.by_ref() {
-        let block = block.unwrap_or_else(|refusal| fail(&format!("a frame is refused with {}", refusal.number()), &bytes));
+        let block =
+            block.unwrap_or_else(|refusal| fail(&format!("a frame is refused with {}", refusal.number()), &bytes));
         let (size, samples) = (block.frame.block_size, &block.samples);
         if block.frame.rate != Some(48000) || block.frame.bits != bits {
             fail("a frame has another rate or other bits than the stream", &bytes);
