@@ -24,7 +24,7 @@ use Rattle.frame_list.specs.declared.Last.{Last}
 use Rattle.frame_list.specs.declared.opening.Hop.{Hop}
 use Rattle.frame_list.specs.declared.opening.Skip.{Skip}
 use Rattle.frame_list.specs.declared.opening.SkipTurn.{SkipTurn}
-use Rattle.frame_list.specs.declared.opening.Skipped.{Skipped}
+use Rattle.frame_list.specs.declared.opening.SkipEnd.{SkipEnd}
 use Rattle.frame_list.specs.declared.opening.StartTurn.{StartTurn}
 use Rattle.frame_list.specs.declared.opening.Started.{Started}
 use Rattle.frame_list.specs.declared.opening.Opening.{Opening}
@@ -166,9 +166,9 @@ pub record SkipsTo (first : List ℕ) (start : Skip) (end : Last) : Type 0 where
   pub numbered : end .card .base + end .card .held < 2 ^ 64
   pub place-fits : end .place ≤ end .card .held
 
-abbrev pub Skips : List ℕ → Skip → Skipped → List ℕ → Type 0
-Skips first start (Skipped.Frames next) left = SkipsAll first start next left
-Skips first start (Skipped.Over end) left = SkipsTo first start end
+abbrev pub Skips : List ℕ → Skip → SkipEnd → List ℕ → Type 0
+Skips first start (SkipEnd.Frames next) left = SkipsAll first start next left
+Skips first start (SkipEnd.Over end) left = SkipsTo first start end
 
 -- ---- the card's first bytes
 

@@ -370,7 +370,7 @@ fn list_from(fd: i32, start: Card, said: Said, window: &mut [u8], samples: &mut 
     let last = read_card(fd, start, window, samples);
     let card = last.card;
     let totals = card.totals;
-    report::length(totals, said);
+    report::length_line(totals, said);
     write_last_line(last);
 }
 

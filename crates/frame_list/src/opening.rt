@@ -44,7 +44,7 @@ pub enum SkipTurn {
     Over(Last),
 }
 
-pub enum Skipped {
+pub enum SkipEnd {
     Frames(Card),
     Over(Last),
 }
@@ -174,7 +174,7 @@ fn skip_turn(fd: i32, skip: Skip, window: &mut [u8]) -> SkipTurn
 }
 
 // Passes the metadata blocks to where the frames start.
-fn skip_blocks(fd: i32, start: Skip, window: &mut [u8]) -> Skipped
+fn skip_blocks(fd: i32, start: Skip, window: &mut [u8]) -> SkipEnd
     requires { ⌜ Sound (start .card) (length (now window)) × (start .card .base ≡ 0) × (0 < start .pass) ⌝ }
     ensures { λ r. ⌜ Skips (take (start .card .held) (now (window .entry))) start r (now (window .exit)) ⌝ }
 {
@@ -183,8 +183,8 @@ fn skip_blocks(fd: i32, start: Skip, window: &mut [u8]) -> Skipped
         let turn = skip_turn(fd, skip, window);
         match turn {
             SkipTurn::On(next) => skip = next,
-            SkipTurn::Frames(card) => return Skipped::Frames(card),
-            SkipTurn::Over(last) => return Skipped::Over(last),
+            SkipTurn::Frames(card) => return SkipEnd::Frames(card),
+            SkipTurn::Over(last) => return SkipEnd::Over(last),
         }
     }
 }
@@ -327,8 +327,8 @@ pub fn read_opening(fd: i32, window: &mut [u8]) -> Opening
         Started::Header(info, skip) => {
             let skipped = skip_blocks(fd, skip, window);
             match skipped {
-                Skipped::Frames(card) => Opening::Stream(info, told_card(info, card)),
-                Skipped::Over(last) => Opening::Over(last),
+                SkipEnd::Frames(card) => Opening::Stream(info, told_card(info, card)),
+                SkipEnd::Over(last) => Opening::Over(last),
             }
         }
         Started::Over(last) => Opening::Over(last),

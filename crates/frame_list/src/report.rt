@@ -136,7 +136,7 @@ fn put_said(line: &mut [u8; LINE], start: usize, length: u64, said: u64) -> usiz
 }
 
 // Writes the line of the length, unless there is neither a frame nor a stream header.
-pub fn length(t: Totals, said: Said) {
+pub fn length_line(t: Totals, said: Said) {
     let mut line = [0u8; LINE];
     match said {
         Said::Nothing => {

@@ -2,7 +2,7 @@
 use mathlib.Core.Path.{sym, subst}
 use lib.ListN.{take}
 use Rattle.frame_list.specs.declared.Card.{Card}
-use Rattle.frame_list.specs.declared.opening.Skipped.{Skipped}
+use Rattle.frame_list.specs.declared.opening.SkipEnd.{SkipEnd}
 use Rattle.frame_list.specs.Opening.{Starts, Skips, Stream}
 use Rattle.frame_list.proofs.StreamStarts.{start-some, header-all, header-over}
 use borrow.Author.Needs.{needs}
@@ -54,7 +54,7 @@ returns-2 c =
     let info = m .started2 .given .0 .0 in
     let skip = m .started2 .given .0 .1 .0 in
     let h = subst (Starts (s .read-start .last .1 .0)) (m .started2 .given .1) (s .read-start .ensures) in
-    subst (λ (r : Card). Stream info r (k .skip-blocks .last .1 .1 .0)) (sym (c .told-card .ensures)) (header-all (s .read-start .last .1 .0) info skip h (c .before .before .skipped .given .0 .0) (k .skip-blocks .last .1 .1 .0) (subst (λ (r : Skipped). Skips (take (skip .card .held) (s .read-start .last .1 .0)) skip r (k .skip-blocks .last .1 .1 .0)) (c .before .before .skipped .given .1) (k .skip-blocks .ensures)))
+    subst (λ (r : Card). Stream info r (k .skip-blocks .last .1 .1 .0)) (sym (c .told-card .ensures)) (header-all (s .read-start .last .1 .0) info skip h (c .before .before .skipped .given .0 .0) (k .skip-blocks .last .1 .1 .0) (subst (λ (r : SkipEnd). Skips (take (skip .card .held) (s .read-start .last .1 .0)) skip r (k .skip-blocks .last .1 .1 .0)) (c .before .before .skipped .given .1) (k .skip-blocks .ensures)))
 
 same-length-3 : tie.Need-same-length-3
 same-length-3 c = search needs
@@ -67,7 +67,7 @@ returns-3 c =
     let info = m .started2 .given .0 .0 in
     let skip = m .started2 .given .0 .1 .0 in
     let h = subst (Starts (s .read-start .last .1 .0)) (m .started2 .given .1) (s .read-start .ensures) in
-    header-over (s .read-start .last .1 .0) info skip h (c .before .skipped2 .given .0 .0) (subst (λ (r : Skipped). Skips (take (skip .card .held) (s .read-start .last .1 .0)) skip r (k .skip-blocks .last .1 .1 .0)) (c .before .skipped2 .given .1) (k .skip-blocks .ensures))
+    header-over (s .read-start .last .1 .0) info skip h (c .before .skipped2 .given .0 .0) (subst (λ (r : SkipEnd). Skips (take (skip .card .held) (s .read-start .last .1 .0)) skip r (k .skip-blocks .last .1 .1 .0)) (c .before .skipped2 .given .1) (k .skip-blocks .ensures))
 
 same-length-4 : tie.Need-same-length-4
 same-length-4 c = search needs
