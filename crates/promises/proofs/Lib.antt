@@ -1,5 +1,7 @@
--- The demands, proved for the code: for any outcomes that meet the contracts of `read_frame` and `write_frame`.
+-- The demands, proved for the code: for any outcomes that meet the contracts of `read_frame`, `write_frame` and
+-- `read_stream_header`.
 pub mod Outcomes
 pub mod Demand3
 pub mod StreamRecords
+pub mod StreamHeader
 pub mod ReadBack

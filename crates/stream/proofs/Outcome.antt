@@ -17,7 +17,7 @@ use Rattle.stream.proofs.md5_bytes
 got-one : {A : Type 0} {a b : A} {p q : Place} → gotAt a p ≡ gotAt b q → (a ≡ b) × (p ≡ q)
 got-one e = (cc, cc)
 
-streamAt-one : (r r′ : StreamRead) → streamAt r ≡ streamAt r′ → r ≡ r′
+pub streamAt-one : (r r′ : StreamRead) → streamAt r ≡ streamAt r′ → r ≡ r′
 streamAt-one (StreamRead.Header i n) (StreamRead.Header j m) e = let d = got-one e in ap₂ StreamRead.Header (d .0) (ap (λ p. p .byte) (d .1))
 streamAt-one (StreamRead.Header i n) (StreamRead.Refused x) e = absurd (got-not-refused i _ x e)
 streamAt-one (StreamRead.Refused x) (StreamRead.Header i n) e = absurd (got-not-refused i _ x (sym e))
