@@ -92,8 +92,8 @@ fn escaped(judge: &mut Judge, family: usize, draw: &mut Draw, pen: &mut Pen) {
     }
 }
 
-/// Frames whose bits are left to the stream: whole, cut short, and with bits changed after the header and the check sums
-/// corrected. claxon reads the same frames with the bits in the header.
+/// Frames whose bits are left to the stream: whole, cut short, and without the CRC-16 and with bits changed after the
+/// header. claxon reads the same frames with the bits in the header.
 fn left_bits(judge: &mut Judge, family: usize, draw: &mut Draw, pen: &mut Pen) {
     let sizes = if draw.once_in(8) { Sizes::Mixed } else { Sizes::Tiny };
     let extreme = draw.once_in(4);
@@ -112,8 +112,8 @@ fn left_bits(judge: &mut Judge, family: usize, draw: &mut Draw, pen: &mut Pen) {
         let mut copy = pen.bytes.clone();
         let end = copy.len() - 2;
         flip(draw, &mut copy[written.header..end]);
-        mend(&mut copy, written.header);
-        judge.left(family, &copy, &without(&copy), bits);
+        // The check sums of the two frames differ, and what is read of a damaged one may go into them.
+        judge.left(family, &copy[..end], &without(&copy)[..end], bits);
     }
 }
 
