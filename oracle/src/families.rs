@@ -105,15 +105,15 @@ fn left_bits(judge: &mut Judge, family: usize, draw: &mut Draw, pen: &mut Pen) {
         mend(&mut left, written.header);
         left
     };
-    judge.left(family, &pen.bytes, &without(&pen.bytes), bits);
+    judge.left(family, &pen.bytes, &without(&pen.bytes), bits, false);
     for _ in 0..8 {
         let (whole, cut) = (without(&pen.bytes), draw.below(pen.bytes.len() as u32) as usize);
-        judge.left(family, &pen.bytes[..cut], &whole[..cut], bits);
+        judge.left(family, &pen.bytes[..cut], &whole[..cut], bits, false);
         let mut copy = pen.bytes.clone();
         let end = copy.len() - 2;
         flip(draw, &mut copy[written.header..end]);
         // The check sums of the two frames differ, and what is read of a damaged one may go into them.
-        judge.left(family, &copy[..end], &without(&copy)[..end], bits);
+        judge.left(family, &copy[..end], &without(&copy)[..end], bits, true);
     }
 }
 

@@ -184,10 +184,15 @@ impl Judge {
     }
 
     /// Reads one frame whose bits are left to the stream, with these bits as the stream's. claxon reads the same frame with
-    /// the bits in its header: `coded`. The two must have the same answer. Returns this reader's number.
-    pub fn left(&mut self, family: usize, coded: &[u8], left: &[u8], bits: u32) {
+    /// the bits in its header: `coded`. The two must have the same answer. The CRC-16 of the two differs, so of a damaged
+    /// frame that gets as far as that nothing is said.
+    pub fn left(&mut self, family: usize, coded: &[u8], left: &[u8], bits: u32, is_damaged: bool) {
         let mut claxon = Claxon::new(coded, std::mem::take(&mut self.spare));
         let asked = Asked::new(family, coded, &mut claxon);
+        if is_damaged && matches!(asked.answer, Answer::Frame(_) | Answer::Refused(10)) {
+            self.spare = claxon.samples;
+            return;
+        }
         let settings = self.stream(&asked).with_stream(StreamRecord { bits, rate: self.draw.bits(20) as u32 });
         let (ours, _) = self.hold_on(&asked, left, &settings, ROOM);
         let number = ours.number().expect("this reader has a number for everything");
