@@ -1,16 +1,16 @@
 -- The metadata blocks of a card, head by head: each head says where the next block starts, and a head that is in a window
 -- of the card is the card's. Assumes nothing.
-use Prim.Native.Nat.{ℕ, zero, suc, _+_, _*_, _^_, _≤_, _<_}
+use Prim.Native.Nat.{ℕ, suc, _+_, _*_, _^_, _≤_, _<_}
 use native.Mathlib.Omega.{arith}
 use mathlib.Core.Path.{_≡_, refl, ap, sym, _∙_, subst}
 use mathlib.Core.Bool.{Bool, true, false, true≢false}
 use mathlib.Core.List.{List, _++_}
-use borrow.Author.Tests.{eq-eqb, ne-eqb}
-use lib.Dec.{ltb}
+use borrow.Author.Tests.{eq-eqb, ne-eqb, leb-true, leb-false}
+use lib.Dec.{leb, ltb}
 use lib.ListN.{length}
 use Rattle.reading.specs.declared.Place.{Place}
 use Rattle.reading.specs.Readers.{Ask, done, _>>=_}
-use Rattle.reading.specs.Places.{position, placeOf, inside, At, gotAt, refusedAt, shortAt, runAt}
+use Rattle.reading.specs.Places.{position, placeOf, inside, gotAt, refusedAt, shortAt, runAt}
 use Rattle.reading.proofs.ByteRuns.{In, inside-in, outside-end, place-is, position-place, runAt-done, runAt-out, stays-in, runAt-bind, bind-is, bind-refused, bind-short}
 use Rattle.reading.proofs.BytePrefixes.{runAt-append}
 use Rattle.reading.proofs.Postconditions.{Meets, holds-at}
@@ -18,6 +18,7 @@ use Rattle.reading.proofs.Shifted.{Forward, value, forward-bind, forward-bits, 
 use Rattle.rfc9639.specs.StreamHeader.{lastAndType, blockHead, skippedBlock, skippedBlocks}
 use Rattle.rfc9639.proofs.StreamHeaderBits.{head-takes}
 use Rattle.rfc9639.proofs.StreamHeaderValues.{StreamRefusal, head-holds}
+use Rattle.demands.proofs.StreamHeaders.{blocks-alike}
 use Rattle.error.specs.declared.Refusal.{Refusal}
 use Rattle.error.specs.Numbers.{numberOf, refusedBy}
 use Rattle.stream.specs.declared.BlockHead.{BlockHead}
@@ -92,21 +93,12 @@ module _ (s : List ℕ) (at : ℕ) where
 
 -- How many blocks may follow makes no difference once there are not that many bytes: a block takes at least four.
 count-free : (s : List ℕ) (n m at : ℕ) → length s < 4 * n + at → length s < 4 * m + at → runAt (skippedBlocks n) s (byteAt at) ≡ runAt (skippedBlocks m) s (byteAt at)
-unfolding blocksAfter
-count-free s zero m at h g = byte-out s at (skippedBlocks zero) (omega arith) ∙ sym (byte-out s at (skippedBlocks m) (omega arith))
-count-free s (suc n) zero at h g = byte-out s at (skippedBlocks (suc n)) (omega arith) ∙ sym (byte-out s at (skippedBlocks zero) (omega arith))
-count-free s (suc n) (suc m) at h g = go (λ next k. count-free s n m next (omega arith) (omega arith)) (runAt blockHead s (byteAt at)) refl
+count-free s n m at h g = go (leb at (length s)) refl
   where
-    after : ((next : ℕ) → at + 4 ≤ next → runAt (skippedBlocks n) s (byteAt next) ≡ runAt (skippedBlocks m) s (byteAt next))
-        → (last : Bool) (next : ℕ) → at + 4 ≤ next → runAt (blocksAfter last n) s (byteAt next) ≡ runAt (blocksAfter last m) s (byteAt next)
-    after again true next k = refl
-    after again false next k = again next k
-
-    go : ((next : ℕ) → at + 4 ≤ next → runAt (skippedBlocks n) s (byteAt next) ≡ runAt (skippedBlocks m) s (byteAt next))
-        → (x : At (Bool × ℕ)) → runAt blockHead s (byteAt at) ≡ x → runAt (skippedBlocks (suc n)) s (byteAt at) ≡ runAt (skippedBlocks (suc m)) s (byteAt at)
-    go again (gotAt (last, size) end) e = blocks-after s at e n ∙ after again last (at + 4 + size) (omega arith) ∙ sym (blocks-after s at e m)
-    go again (refusedAt k) e = blocks-refused s at n k e ∙ sym (blocks-refused s at m k e)
-    go again shortAt e = blocks-short s at n e ∙ sym (blocks-short s at m e)
+    go : (b : Bool) → leb at (length s) ≡ b → runAt (skippedBlocks n) s (byteAt at) ≡ runAt (skippedBlocks m) s (byteAt at)
+    go true e = blocks-alike s n m (byteAt at) (byte-in s at (leb-true at (length s) e)) (omega arith) (omega arith)
+    go false e =
+        let past = leb-false at (length s) e in byte-out s at (skippedBlocks n) past ∙ sym (byte-out s at (skippedBlocks m) past)
 
 -- ---- the same, of a whole card
 
