@@ -37,6 +37,8 @@ pub record Given : Type 0 where
   pub rate-in-thousands : accepts (recordOf 8 1) (hex 12 0xfff86c0200032cd9_000520f1) 8 (SampleRate.Known 44000)
   pub rate-in-ones : accepts (recordOf 8 1) (hex 13 0xfff86d020003ac44_45000574c0) 8 (SampleRate.Known 44100)
   pub rate-in-tens : accepts unknown (hex 13 0xfff86e020003113a_e50005582c) 8 (SampleRate.Known 44100)
+  -- a stored rate of 0 is the frame's own
+  pub stored-rate-0 : accepts (recordOf 8 44100) (hex 13 0xfff86d0200030000_7a000516f2) 8 (SampleRate.Known 0)
   pub no-rate : accepts unknown (hex 11 0xfff8600200033500_050984) 8 SampleRate.Unknown
   -- a record that no stream has, before anything, also where the frame has bits of its own
   pub bits-3-of-nothing : refuses (recordOf 3 44100) [] 2 11
@@ -70,6 +72,7 @@ given = record {
   rate-in-thousands = refl;
   rate-in-ones = refl;
   rate-in-tens = refl;
+  stored-rate-0 = refl;
   no-rate = refl;
   bits-3-of-nothing = refl;
   bits-33-of-nothing = refl;
