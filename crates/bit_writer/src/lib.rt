@@ -1,11 +1,13 @@
 // Writes bits into a lent output, most significant first: the counterpart of `input`. A pen goes by value: the byte
 // that it stands at, and the bits of that byte that it holds and has not written yet. Each function answers on every
 // argument, and promises the `inked` (specs/PenWrites.antt) of the bits that it is to write.
+#![tactic(auto)]
+
 ghost use Rattle.std.specs.Prelude.{◌≡◌, ◌+◌, ◌^◌, ◌≤◌, ◌<◌, length};
 ghost use Rattle.reading.specs.NumbersAsBits.{bits_of, unary};
 ghost use Rattle.bit_writer.specs.PenWrites.{State, ink, is_pen, Writes};
 
-#[derive(Drop)]
+#[derive(Clone, Copy)]
 pub struct Pen {
     pub byte: usize,
     // How many bits of the byte being filled it holds, at most seven, and which.

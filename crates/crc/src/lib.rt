@@ -4,6 +4,8 @@
 // A sum is updated with tables of every byte's own sum. The CRC-8 goes byte by byte. The CRC-16 takes eight bytes a turn
 // by eight tables, and the last few byte by byte. The definitions are imported under other names, since the functions
 // have the same ones.
+#![tactic(auto)]
+
 mod tables;
 
 ghost use Rattle.std.specs.Prelude.{◌≡◌, ◌∷◌, ◌+◌, ◌<◌, ◌≤◌, length, take, drop, replicate};

@@ -1,5 +1,7 @@
 // The limits of a frame that is written: which settings it can have, and how long it can be with them (document 01,
 // "The added writer"). Each function answers on every argument as the definition does.
+#![tactic(auto)]
+
 ghost use Rattle.std.specs.Prelude.{◌≡◌, ◌^◌, ◌≤◌};
 ghost use Rattle.rfc9639.specs.HeaderCodes.{largest_block_size, assignment, channel_count};
 ghost use Rattle.rfc9639.specs.Write.{writable, number_limit, allowed, lanes as lanes_of, most_bits};

@@ -15,6 +15,8 @@
 // the frames start where the definition's stream header ends on all of the card's bytes (`Opens`), and the run lists what
 // the definition's answers to all bytes from there on list (`Runs`). The size of the stream's blocks is that of the
 // card's first; the bits and the rate that a frame leaves to the stream are those of the stream header.
+#![tactic(auto)]
+
 mod line;
 mod opening;
 mod report;
@@ -43,7 +45,7 @@ const ROOM: usize = 524280;
 // What the card told so far: how many frames there were, how many samples they had in all channels and in each one, the
 // sample rate, which the stream header gives or else the first frame that has one, the size of the stream's blocks,
 // which the first frame gives, and what the stream header gives to all frames.
-#[derive(Drop)]
+#[derive(Clone, Copy)]
 pub struct Totals {
     pub frames: u64,
     pub samples: u64,
@@ -55,7 +57,7 @@ pub struct Totals {
 
 // How far the card has been read: the place on the card of the window's first byte, how many bytes the window holds,
 // what follows them, and the totals of the frames before the window.
-#[derive(Drop)]
+#[derive(Clone, Copy)]
 pub struct Card {
     pub base: u64,
     pub held: usize,
@@ -64,7 +66,7 @@ pub struct Card {
 }
 
 // The frames in a window: the place after the last one, why no frame was read there, and the totals up to there.
-#[derive(Drop)]
+#[derive(Clone, Copy)]
 pub struct Listed {
     pub place: usize,
     pub refusal: Refusal,
@@ -72,7 +74,7 @@ pub struct Listed {
 }
 
 // How the run ended.
-#[derive(Drop)]
+#[derive(Clone, Copy)]
 pub enum How {
     // The card ends here, after a frame or in the middle of one.
     Ended(Refusal),
@@ -87,7 +89,7 @@ pub enum How {
 }
 
 // Where the run ended: the window, with the totals up to a place in it; that place; and how.
-#[derive(Drop)]
+#[derive(Clone, Copy)]
 pub struct Last {
     pub card: Card,
     pub place: usize,
@@ -95,21 +97,21 @@ pub struct Last {
 }
 
 // Whether there is more to read.
-#[derive(Drop)]
+#[derive(Clone, Copy)]
 pub enum Turn {
     On(Card),
     Over(Last),
 }
 
 // An open card, or the system's error number.
-#[derive(Drop)]
+#[derive(Clone, Copy)]
 pub enum Opened {
     At(i32),
     Failed(i32),
 }
 
 // What the first argument asks for.
-#[derive(Drop)]
+#[derive(Clone, Copy)]
 pub enum Word {
     Help,
     Input,

@@ -14,28 +14,28 @@ use stream::{BlockHead, StartRead};
 
 // Where the next metadata block starts in the window, or, after the last one, the first frame: `true`. The place may be
 // past the bytes that are held. Or why there is no such block.
-#[derive(Drop)]
+#[derive(Clone, Copy)]
 pub enum Hop {
     At(usize, bool),
     Refused(Refusal),
 }
 
 // The card, and where in its window the next metadata block starts, or, if `last`, the first frame.
-#[derive(Drop)]
+#[derive(Clone, Copy)]
 pub struct Skip {
     pub card: Card,
     pub pass: usize,
     pub last: bool,
 }
 
-#[derive(Drop)]
+#[derive(Clone, Copy)]
 pub enum SkipTurn {
     On(Skip),
     Frames(Card),
     Over(Last),
 }
 
-#[derive(Drop)]
+#[derive(Clone, Copy)]
 pub enum SkipEnd {
     Frames(Card),
     Over(Last),
@@ -43,7 +43,7 @@ pub enum SkipEnd {
 
 // What one look at the card's first bytes tells: nothing yet; no stream header; the mark and STREAMINFO, with the blocks
 // after it still to be passed; or the end of the run.
-#[derive(Drop)]
+#[derive(Clone, Copy)]
 pub enum StartTurn {
     On(Card),
     Bare(Card),
@@ -51,7 +51,7 @@ pub enum StartTurn {
     Over(Last),
 }
 
-#[derive(Drop)]
+#[derive(Clone, Copy)]
 pub enum Started {
     Bare(Card),
     Header(StreamInfo, Skip),
@@ -59,7 +59,7 @@ pub enum Started {
 }
 
 // The card where its frames start, after a stream header or not; or the end of the run within a stream header.
-#[derive(Drop)]
+#[derive(Clone, Copy)]
 pub enum Opening {
     Bare(Card),
     Stream(StreamInfo, Card),

@@ -10,7 +10,7 @@ use libc::STDOUT_FILENO;
 use rfc9639::{FirstSample, SampleRate, Sizes, StreamBlock, StreamInfo, StreamRecord};
 
 // How many samples of a channel the stream header says that there are: 0 says that its writer did not know.
-#[derive(Drop)]
+#[derive(Clone, Copy)]
 pub enum Said {
     Nothing,
     Samples(u64),

@@ -6,7 +6,7 @@ use libc::EINTR;
 
 // What one system read did: it read that many bytes, found the end of the card, was interrupted, or failed with the
 // system's error number.
-#[derive(Drop)]
+#[derive(Clone, Copy)]
 pub enum SystemRead {
     Bytes(usize),
     Ended,
@@ -16,7 +16,7 @@ pub enum SystemRead {
 
 // What follows the bytes that the window holds: perhaps more; the end of the card; or a failed read, with the system's
 // error number.
-#[derive(Drop)]
+#[derive(Clone, Copy)]
 pub enum Rest {
     More,
     Ended,
@@ -24,7 +24,7 @@ pub enum Rest {
 }
 
 // How many bytes the window holds, and what follows them.
-#[derive(Drop)]
+#[derive(Clone, Copy)]
 pub struct Filled {
     pub held: usize,
     pub rest: Rest,

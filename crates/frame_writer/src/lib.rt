@@ -1,6 +1,8 @@
 // The added writer: one frame from lent samples (document 01, "The added writer"; RFC 9639 section 9). It answers on
 // every argument, and its answer and the output that it leaves are those of the definition's `write`. That the reader
 // reads such a frame back, and how long it is at most, are theorems about the definition (crates readback and rfc9639).
+#![tactic(auto)]
+
 mod fitting;
 mod footer;
 mod lane;
@@ -21,7 +23,7 @@ use rfc9639::FrameSetting;
 use subframe_choice::Choice;
 use subframes::write_subframes;
 
-#[derive(Drop)]
+#[derive(Clone, Copy)]
 pub enum WriteAnswer {
     // A frame, with its length in bytes.
     Frame(usize),

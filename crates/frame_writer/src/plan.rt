@@ -24,7 +24,7 @@ fn choose_lane(samples: &[i32], set: FrameSetting, c: u32) -> Choice
 }
 
 // The choices for the subframes, and the bits of all of them. Choices past the last channel mean nothing.
-#[derive(Drop)]
+#[derive(Clone, Copy)]
 pub struct FramePlan {
     pub choices: [Choice; 8],
     pub bits: u64,

@@ -1,5 +1,7 @@
 // The code tables of the frame header (RFC 9639 sections 9.1.1 to 9.1.7), for the reader and for the writer. Each
 // function answers on every code and every value as the definition does (rfc9639/specs/HeaderCodes.antt).
+#![tactic(auto)]
+
 ghost use Rattle.std.specs.Prelude.{◌≡◌, ◌%◌};
 ghost use Rattle.rfc9639.specs.HeaderCodes.{block_size, size_code, rate_bits, sample_rate, assignment, channel_count, bit_depth, bits_code};
 ghost use Rattle.header_codes.specs.Answers.{size_ask, depth_ask};
@@ -9,7 +11,7 @@ use rfc9639::{ChannelAssignment, SampleRate};
 
 // What the code of a block size says: the size in samples, or that the size less one follows the coded number (RFC
 // 9639 section 9.1.6), in one byte or in two.
-#[derive(Drop)]
+#[derive(Clone, Copy)]
 pub enum BlockSize {
     Samples(u64),
     InByte,
@@ -132,7 +134,7 @@ pub fn channel_count(c: ChannelAssignment) -> usize
 }
 
 // The bits of a sample by their code, 0 where the header leaves them to the stream, or why the code is refused.
-#[derive(Drop)]
+#[derive(Clone, Copy)]
 pub enum Depth {
     Bits(u32),
     Refused(Refusal),

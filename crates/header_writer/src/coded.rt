@@ -7,7 +7,7 @@ ghost use Rattle.bit_writer.specs.PenWrites.{Writes};
 use bit_writer::Pen;
 
 // A number's first byte, and how many bytes follow it.
-#[derive(Drop)]
+#[derive(Clone, Copy)]
 struct Form(u64, u32);
 
 // The shortest form of a number below 2^36; from there on the longest.

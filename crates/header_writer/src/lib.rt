@@ -1,5 +1,7 @@
 // Writes a frame's header (RFC 9639 section 9.1), and gives its length. Each function answers on every setting and
 // output, and promises the bits that the definition gives the header (rfc9639/specs/Write.antt).
+#![tactic(auto)]
+
 mod coded;
 
 ghost use Rattle.std.specs.Prelude.{◌≡◌, ◌-◌, ◌/◌, length};

@@ -2,6 +2,8 @@
 // answers on every argument: `read_bits` and `read_unary` with what the definition's question (crates/reading) gets
 // from these bytes at that place, `word_from` with a word of them. Bits are read most significant first (RFC 9639
 // section 5).
+#![tactic(auto)]
+
 ghost use Rattle.std.specs.Prelude.{◌≡◌, length, take, drop, ◌+◌, ◌-◌, ◌*◌, ◌/◌, ◌%◌, ◌^◌, ◌≤◌, ◌<◌};
 ghost use Rattle.reading.specs.Readers.{bits, zeros};
 ghost use Rattle.reading.specs.Places.{place_of, got_at, run_at};
@@ -12,7 +14,7 @@ ghost use Rattle.input.specs.Answers.{bits_at, low64, count as count_of, counted
 use reading::{Place, is_inside};
 
 // What was read and the place after it, or that the input ends first.
-#[derive(Drop)]
+#[derive(Clone, Copy)]
 pub enum Bits {
     Value(u64, Place),
     Short,

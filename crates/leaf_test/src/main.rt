@@ -1,6 +1,8 @@
 // The leaves of the reader on claxon's own test data, at the boundaries of each function, and at each refusal. Each
 // case has a line: the functions, the arguments, `=` and the answers, a refusal by its number. The file `stdout` holds
 // what claxon asserts, what was published, or what was worked out apart from this program.
+#![tactic(auto)]
+
 mod bit_by_bit;
 mod blocks;
 mod crcs;

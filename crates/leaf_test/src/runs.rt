@@ -108,7 +108,7 @@ fn is_same(a: Bits, b: Bits) -> bool {
 
 // What the seeded inputs got: the inputs on which a reader differs, the runs that ended, those of 64 zeros or more, the
 // numbers of more than 56 bits, and the other numbers.
-#[derive(Drop)]
+#[derive(Clone, Copy)]
 struct SeededCounts {
     differ: u64,
     ended: u64,

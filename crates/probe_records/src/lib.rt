@@ -1,5 +1,7 @@
 // Numbers as bytes, lowest byte first, for the records of `runner` and the probe programs. Each function answers on
 // every argument.
+#![tactic(auto)]
+
 ghost use Rattle.std.specs.Prelude.{◌≡◌, ◌∷◌, ◌++◌, ◌+◌, ◌*◌, ◌%◌, pos};
 ghost use Rattle.rfc9639.specs.Integers.{low, wrapped};
 ghost use Rattle.probe_records.specs.LittleEndian.{little};

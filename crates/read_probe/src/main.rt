@@ -12,6 +12,8 @@
 //     samples (4 each)                       all that were lent
 //     wide room places (8 each)              for W-209: zeros
 // If a room is above 65,536, or the flag `block given` or `stream given` is neither 0 nor 1, the only byte written is 11.
+#![tactic(auto)]
+
 ghost use Rattle.std.specs.Prelude.{◌≡◌, ◌+◌, ◌≤◌, length};
 
 use frame::ReadAnswer;

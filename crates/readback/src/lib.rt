@@ -1,1 +1,2 @@
 // What the writer's definition writes, the reader's definition reads back: theorems alone, in proofs/.
+#![tactic(auto)]

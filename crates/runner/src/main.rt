@@ -2,6 +2,8 @@
 // little-endian records. 01: consumed (4), first sample number (8), channels (1), bits (1), block size (2). 02, for
 // each sample in the buffer's order: the sample (4). 03: the number of the refusal (1), which ends the run. All frames
 // are read as of a stream whose blocks have the size in the first frame's header.
+#![tactic(auto)]
+
 ghost use Rattle.std.specs.Prelude.{◌*◌, ◌≤◌, length};
 
 use frame::{Accepted, ReadAnswer};

@@ -5,53 +5,53 @@ use reading::Place;
 use rfc9639::{Md5, Sizes, StreamInfo};
 
 // Something that leaves no value, and the place after it.
-#[derive(Drop)]
+#[derive(Clone, Copy)]
 pub enum Passed {
     To(Place),
     Refused(Refusal),
 }
 
-#[derive(Drop)]
+#[derive(Clone, Copy)]
 pub enum SizesRead {
     Sizes(Sizes, Place),
     Short,
 }
 
-#[derive(Drop)]
+#[derive(Clone, Copy)]
 pub enum Md5Read {
     Md5(Md5, Place),
     Short,
 }
 
 // The sample rate, the number of channels and the bits of a sample.
-#[derive(Drop)]
+#[derive(Clone, Copy)]
 pub enum FormatRead {
     Format(u32, u32, u32, Place),
     Refused(Refusal),
 }
 
-#[derive(Drop)]
+#[derive(Clone, Copy)]
 pub enum InfoRead {
     Info(StreamInfo, Place),
     Refused(Refusal),
 }
 
 // Whether a block is the last one, and its type.
-#[derive(Drop)]
+#[derive(Clone, Copy)]
 pub enum LastAndType {
     Block(bool, u64, Place),
     Refused(Refusal),
 }
 
 // Whether the first block is the last one, and what it says.
-#[derive(Drop)]
+#[derive(Clone, Copy)]
 pub enum FirstBlock {
     Block(bool, StreamInfo, Place),
     Refused(Refusal),
 }
 
 // Whether a block that was skipped is the last one.
-#[derive(Drop)]
+#[derive(Clone, Copy)]
 pub enum Skipped {
     Block(bool, Place),
     Refused(Refusal),

@@ -1,6 +1,8 @@
 // The stream header (RFC 9639 sections 6 and 8), in the order of its bits: claxon's `metadata.rs`. `read_stream_header`
 // answers as the definition does, on every input. A caller that holds only a part of a long header reads it by
 // `read_stream_start` and `read_block_head`. Each private function reads one part of the definition.
+#![tactic(auto)]
+
 mod answers;
 
 ghost use Rattle.std.specs.Prelude.{◌≡◌, true, ◌/◌, ◌%◌, ◌≤◌, ◌<◌, length};
@@ -16,21 +18,21 @@ use reading::Place;
 use rfc9639::{Md5, STREAM_INFO_LENGTH, STREAM_MARK, Sizes, StreamInfo};
 
 // A stream header and how many bytes it takes, or why there is none.
-#[derive(Drop)]
+#[derive(Clone, Copy)]
 pub enum StreamRead {
     Header(StreamInfo, usize),
     Refused(Refusal),
 }
 
 // The mark and STREAMINFO: whether that is the last block, what it says, and how many bytes they take.
-#[derive(Drop)]
+#[derive(Clone, Copy)]
 pub enum StartRead {
     Start(bool, StreamInfo, usize),
     Refused(Refusal),
 }
 
 // Whether a block is the last one, the length of its contents in bytes, and the place where they start.
-#[derive(Drop)]
+#[derive(Clone, Copy)]
 pub enum BlockHead {
     Head(bool, u64, Place),
     Refused(Refusal),

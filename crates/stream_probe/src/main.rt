@@ -3,6 +3,8 @@
 //     number (1), consumed (4), smallest and largest block (2, 2), smallest and largest frame (4, 4), rate (4),
 //     channels (1), bits (1), samples (8), MD5 (16: as it is stored, first byte first)
 // After a refusal all but the number are zero.
+#![tactic(auto)]
+
 ghost use Rattle.std.specs.Prelude.{◌≤◌, length};
 
 use libc::{STDIN_FILENO, STDOUT_FILENO};

@@ -1,5 +1,7 @@
 // One channel of a block (RFC 9639 section 9.2), after claxon's subframe.rs. `decode` answers on every argument. It
 // leaves the samples of the definition in the caller's slice, or zeros where it refuses.
+#![tactic(auto)]
+
 mod answers;
 mod header;
 mod predict;
@@ -21,7 +23,7 @@ use residual::{decode_residual, decode_verbatim, read_sample};
 use rfc9639::{SubframeHeader, SubframeType};
 
 // The place after what was decoded, or why it stopped.
-#[derive(Drop)]
+#[derive(Clone, Copy)]
 pub enum Decoded {
     Done(Place),
     Refused(Refusal),

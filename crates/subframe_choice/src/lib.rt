@@ -1,5 +1,7 @@
 // Which way of storing a channel takes the fewest bits, by rfc9639's specs/SubframeCoding.antt. The function answers
 // on every argument.
+#![tactic(auto)]
+
 mod offer;
 mod plain;
 mod tally;
@@ -16,7 +18,7 @@ use rfc9639::Candidate;
 use subframe_samples::Source;
 use tally::quotient_sums;
 
-#[derive(Drop)]
+#[derive(Clone, Copy)]
 pub struct Choice {
     pub candidate: Candidate,
     // Of the whole subframe.

@@ -1,6 +1,8 @@
 // What each subframe of a frame stores (RFC 9639 section 4.2), sample by sample, from lent samples that stand channel
 // after channel: a channel as it is, or the mid or side of the first two. Nothing is copied: a sample is computed where
 // it is needed. Each function answers on every argument, by the definition's `stored`; past its end a sample is 0.
+#![tactic(auto)]
+
 mod predict;
 mod sample;
 
@@ -14,7 +16,7 @@ use sample::sample_at;
 
 // Which of the lent samples a subframe stores: `size` samples a channel. The samples are lent beside it, since Rattle's
 // borrow checker does not cover a struct that holds a slice.
-#[derive(Drop)]
+#[derive(Clone, Copy)]
 pub struct Source {
     pub size: u16,
     pub lane: Lane,

@@ -27,7 +27,7 @@ fn side(left: i32, right: i32) -> i64
 }
 
 // A sample of each of the first two channels.
-#[derive(Drop)]
+#[derive(Clone, Copy)]
 struct ChannelPair {
     left: i32,
     right: i32,

@@ -1,6 +1,8 @@
 // A channel of a frame as the writer stores it (RFC 9639 section 9.2), by rfc9639's specs/SubframeCoding.antt. The
 // public function answers on every argument. Each private one writes a piece of the definition, which its contract
 // names.
+#![tactic(auto)]
+
 mod residual;
 
 ghost use Rattle.std.specs.Prelude.{◌≤◌, take};

@@ -2,6 +2,8 @@
 // reads frame after frame (the programs, the exported function, the Rust binding's loop) takes this step. Taken from
 // the first byte on, with the same settings, the steps give the definition's list of answers, with none skipped and
 // none read twice (proofs/Walks.antt).
+#![tactic(auto)]
+
 ghost use Rattle.std.specs.Prelude.{◌≡◌};
 ghost use Rattle.rfc9639.specs.FrameByFrame.{stream_settings};
 ghost use Rattle.walk.specs.Steps.{Steps};
@@ -11,7 +13,7 @@ use header::HeaderRead;
 use rfc9639::{Settings, StreamBlock, StreamRecord};
 
 // What was read at a place, and the next place: past an accepted frame, or the same place after a refusal.
-#[derive(Drop)]
+#[derive(Clone, Copy)]
 pub struct Step {
     pub answer: ReadAnswer,
     pub place: usize,

@@ -3,6 +3,8 @@
 // samples (4 each, at most 16,384). Missing bytes before the samples count as zeros, and an incomplete last sample is
 // left out. The output is filled, then written into once. Written: the answer's number (1), the length (4), then the
 // whole output. A room above 32,768 is answered by 11, a length of 0, and no bytes.
+#![tactic(auto)]
+
 ghost use Rattle.std.specs.Prelude.{◌≡◌, ◌*◌, ◌≤◌, ◌+◌, length};
 
 use frame_writer::WriteAnswer;
