@@ -3,7 +3,8 @@ use mathlib.Core.Path.{◌≡◌, refl, sym, ◌∙◌}
 use contract.Lifetimes.{Lfts}
 use denote.Triple.Entry.{Args, Res}
 use denote.Triple.Clauses.{Ended, Lasts, AtExit, at_exit}
-use Rattle.reading.proofs.is_inside
+use Rattle.reading.specs.contracts.is_inside as is_inside
+use Rattle.reading.proofs.is_inside.Reads as is_inside_reads
 
 -- Rattle derives two things from a function's source: `ended`, its signature with the buffers that it hands back, and
 -- `Reads.Learnt`, what its `ensures` says about the arguments, the result and those buffers. Any two outcomes on the
@@ -19,5 +20,5 @@ OneOutcome T ensured =
 pub one_value : {A : Type 0} {x r r' : A} → r ≡ x → r' ≡ x → r ≡ r'
 one_value p q = p ∙ sym q
 
-pub is_inside-one : OneOutcome is_inside.ended is_inside.Reads.Learnt
+pub is_inside-one : OneOutcome is_inside.ended is_inside_reads.Learnt
 is_inside-one κs args r r' left left' p q = (one_value p q, refl)
