@@ -7,7 +7,8 @@ use Rattle.rfc9639.specs.Read.{Report, refusal}
 use Rattle.frame.specs.declared.Accepted.{Accepted}
 use Rattle.frame.specs.declared.ReadAnswer.{ReadAnswer}
 use Rattle.frame.specs.Reads.{report_of}
-use Rattle.frame.proofs.read_frame
+use Rattle.frame.specs.contracts.read_frame as read_frame
+use Rattle.frame.proofs.read_frame.Reads as read_frame_reads
 
 -- the frame that a report describes
 reported : Report → Accepted
@@ -20,6 +21,6 @@ report-tells (ReadAnswer.Frame f) (ReadAnswer.Refused x) e = absurd (omega (arit
 report-tells (ReadAnswer.Refused x) (ReadAnswer.Frame f) e = absurd (omega (arith, some_number x, ap (λ y. y.number) e))
 report-tells (ReadAnswer.Refused x) (ReadAnswer.Refused y) e = ap ReadAnswer.Refused (number-tells x y (ap (λ z. z.number) e))
 
-pub read_frame-one : OneOutcome read_frame.ended read_frame.Reads.Learnt
+pub read_frame-one : OneOutcome read_frame.ended read_frame_reads.Learnt
 read_frame-one κs args r r' left left' p q =
     (report-tells r r' (one_value p.report q.report), ap (λ l. (tt, (tt, (l, tt)))) (one_value p.samples q.samples))

@@ -8,7 +8,8 @@ use Rattle.error.proofs.Outcome.{number-tells, some_number}
 use Rattle.rfc9639.specs.Write.{unwritten}
 use Rattle.frame_writer.specs.declared.WriteAnswer.{WriteAnswer}
 use Rattle.frame_writer.specs.Outcomes.{outcome}
-use Rattle.frame_writer.proofs.write_frame
+use Rattle.frame_writer.specs.contracts.write_frame as write_frame
+use Rattle.frame_writer.proofs.write_frame.Reads as write_frame_reads
 
 outcome_determines : (r r' : WriteAnswer) (s s' : List ℕ) → outcome r s ≡ outcome r' s' → (r ≡ r') × (s ≡ s')
 unfolding unwritten
@@ -18,6 +19,6 @@ outcome_determines (WriteAnswer.Refused x) (WriteAnswer.Frame n) s s' e = absurd
 outcome_determines (WriteAnswer.Refused x) (WriteAnswer.Refused y) s s' e =
     (ap WriteAnswer.Refused (number-tells x y (ap (λ z. z.number) e)), ap (λ z. z.output) e)
 
-pub write_frame-one : OneOutcome write_frame.ended write_frame.Reads.Learnt
+pub write_frame-one : OneOutcome write_frame.ended write_frame_reads.Learnt
 write_frame-one κs args r r' left left' p q =
     let (answers, outputs) = outcome_determines r r' _ _ (one_value p q) in (answers, ap (λ l. (tt, (tt, (tt, (tt, (tt, (tt, (l, tt)))))))) outputs)

@@ -13,14 +13,22 @@ use Rattle.header_codes.specs.declared.BlockSize.TheVariants.{Samples, InByte, I
 use Rattle.header_codes.specs.declared.Depth.{Depth}
 use Rattle.header_codes.specs.declared.Depth.TheVariants.{Bits, Refused}
 use Rattle.header_codes.specs.Answers.{size_ask, depth_ask}
-use Rattle.header_codes.proofs.block_size
-use Rattle.header_codes.proofs.size_code
-use Rattle.header_codes.proofs.rate_bits
-use Rattle.header_codes.proofs.sample_rate
-use Rattle.header_codes.proofs.channel_assignment
-use Rattle.header_codes.proofs.channel_count
-use Rattle.header_codes.proofs.bit_depth
-use Rattle.header_codes.proofs.bits_code
+use Rattle.header_codes.specs.contracts.block_size as block_size
+use Rattle.header_codes.proofs.block_size.Reads as block_size_reads
+use Rattle.header_codes.specs.contracts.size_code as size_code
+use Rattle.header_codes.proofs.size_code.Reads as size_code_reads
+use Rattle.header_codes.specs.contracts.rate_bits as rate_bits
+use Rattle.header_codes.proofs.rate_bits.Reads as rate_bits_reads
+use Rattle.header_codes.specs.contracts.sample_rate as sample_rate
+use Rattle.header_codes.proofs.sample_rate.Reads as sample_rate_reads
+use Rattle.header_codes.specs.contracts.channel_assignment as channel_assignment
+use Rattle.header_codes.proofs.channel_assignment.Reads as channel_assignment_reads
+use Rattle.header_codes.specs.contracts.channel_count as channel_count
+use Rattle.header_codes.proofs.channel_count.Reads as channel_count_reads
+use Rattle.header_codes.specs.contracts.bit_depth as bit_depth
+use Rattle.header_codes.proofs.bit_depth.Reads as bit_depth_reads
+use Rattle.header_codes.specs.contracts.bits_code as bits_code
+use Rattle.header_codes.proofs.bits_code.Reads as bits_code_reads
 
 -- the answer that a reader stands for, by its first step; the last three stand for none
 size_of : Ask ℕ → BlockSize
@@ -36,22 +44,22 @@ size_back (Samples n) = refl
 size_back InByte = refl
 size_back InTwoBytes = refl
 
-pub block_size-one : OneOutcome block_size.ended block_size.Reads.Learnt
+pub block_size-one : OneOutcome block_size.ended block_size_reads.Learnt
 block_size-one κs args r r' left left' p q = (sym (size_back r) ∙ ap size_of (one_value p q) ∙ size_back r', refl)
 
-pub size_code-one : OneOutcome size_code.ended size_code.Reads.Learnt
+pub size_code-one : OneOutcome size_code.ended size_code_reads.Learnt
 size_code-one κs args r r' left left' p q = (one_value p q, refl)
 
-pub rate_bits-one : OneOutcome rate_bits.ended rate_bits.Reads.Learnt
+pub rate_bits-one : OneOutcome rate_bits.ended rate_bits_reads.Learnt
 rate_bits-one κs args r r' left left' p q = (one_value p q, refl)
 
-pub sample_rate-one : OneOutcome sample_rate.ended sample_rate.Reads.Learnt
+pub sample_rate-one : OneOutcome sample_rate.ended sample_rate_reads.Learnt
 sample_rate-one κs args r r' left left' p q = (one_value p q, refl)
 
-pub channel_assignment-one : OneOutcome channel_assignment.ended channel_assignment.Reads.Learnt
+pub channel_assignment-one : OneOutcome channel_assignment.ended channel_assignment_reads.Learnt
 channel_assignment-one κs args r r' left left' p q = (one_value p q, refl)
 
-pub channel_count-one : OneOutcome channel_count.ended channel_count.Reads.Learnt
+pub channel_count-one : OneOutcome channel_count.ended channel_count_reads.Learnt
 channel_count-one κs args r r' left left' p q = (one_value p q, refl)
 
 depth-one : (r r' : Depth) → depth_ask r ≡ depth_ask r' → r ≡ r'
@@ -60,8 +68,8 @@ depth-one (Bits n) (Refused x) e = absurd (let z : ◌≡◌ {A = ℕ} 0 1 = cc 
 depth-one (Refused x) (Bits n) e = absurd (let z : ◌≡◌ {A = ℕ} 0 1 = cc in omega arith)
 depth-one (Refused x) (Refused y) e = ap Refused (number-tells x y (let a : number_of x ≡ number_of y = cc in a))
 
-pub bit_depth-one : OneOutcome bit_depth.ended bit_depth.Reads.Learnt
+pub bit_depth-one : OneOutcome bit_depth.ended bit_depth_reads.Learnt
 bit_depth-one κs args r r' left left' p q = (depth-one r r' (one_value p q), refl)
 
-pub bits_code-one : OneOutcome bits_code.ended bits_code.Reads.Learnt
+pub bits_code-one : OneOutcome bits_code.ended bits_code_reads.Learnt
 bits_code-one κs args r r' left left' p q = (one_value p q, refl)

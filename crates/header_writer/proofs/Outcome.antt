@@ -2,11 +2,13 @@
 use mathlib.Core.Path.{refl, ap}
 use Rattle.reading.proofs.Outcome.{OneOutcome, one_value}
 use Rattle.bit_writer.proofs.Outcome.{state_one}
-use Rattle.header_writer.proofs.header_length
-use Rattle.header_writer.proofs.write_header
+use Rattle.header_writer.specs.contracts.header_length as header_length
+use Rattle.header_writer.proofs.header_length.Reads as header_length_reads
+use Rattle.header_writer.specs.contracts.write_header as write_header
+use Rattle.header_writer.proofs.write_header.Reads as write_header_reads
 
-pub header_length-one : OneOutcome header_length.ended header_length.Reads.Learnt
+pub header_length-one : OneOutcome header_length.ended header_length_reads.Learnt
 header_length-one κs args r r' left left' p q = (one_value p q, refl)
 
-pub write_header-one : OneOutcome write_header.ended write_header.Reads.Learnt
+pub write_header-one : OneOutcome write_header.ended write_header_reads.Learnt
 write_header-one κs args r r' left left' p q = let (pens, bytes) = state_one p q in (pens, ap (λ l. (tt, (l, tt))) bytes)

@@ -12,10 +12,12 @@ use Rattle.rfc9639.specs.Read.{read}
 use Rattle.rfc9639.specs.Write.{write}
 use Rattle.frame.specs.declared.ReadAnswer.{ReadAnswer}
 use Rattle.frame.specs.Reads.{Reads}
-use Rattle.frame.proofs.read_frame as read_frame
+use Rattle.frame.specs.contracts.read_frame as read_frame
+use Rattle.frame.proofs.read_frame.Reads as read_frame_reads
 use Rattle.frame_writer.specs.declared.WriteAnswer.{WriteAnswer}
 use Rattle.frame_writer.specs.Outcomes.{outcome}
-use Rattle.frame_writer.proofs.write_frame as write_frame
+use Rattle.frame_writer.specs.contracts.write_frame as write_frame
+use Rattle.frame_writer.proofs.write_frame.Reads as write_frame_reads
 
 -- the settings among the arguments of `write_frame`
 abbrev setting_of : (κs : Lfts (write_frame.ended).signature.lifetimes) → Args (write_frame.ended).signature κs → FrameSetting
@@ -38,7 +40,7 @@ pub record ReadFrame (given : Settings) (s : List ℕ) (b : List ℤ) (r : ReadA
   pub bytes : args.0.now ≡ s
   pub settings : args.1.0 ≡ given
   pub lent : args.1.1.0.now ≡ b
-  pub meets : read_frame.Reads.Learnt κs args r (at_exit read_frame.ended κs args (tt, (tt, (left, tt))))
+  pub meets : read_frame_reads.Learnt κs args r (at_exit read_frame.ended κs args (tt, (tt, (left, tt))))
 
 pub reads : {given : Settings} {s : List ℕ} {b : List ℤ} {r : ReadAnswer} {left : List ℤ} → ReadFrame given s b r left → Reads (read given s b) r left
 reads {given} {s} {b} {r} {left} o =
@@ -54,7 +56,7 @@ pub record WriteFrame (set : FrameSetting) (xs : List ℤ) (out : List ℕ) (r :
   pub samples : args.0.now ≡ xs
   pub settings : setting_of κs args ≡ set
   pub lent : args.1.1.1.1.1.1.0.now ≡ out
-  pub meets : write_frame.Reads.Learnt κs args r (at_exit write_frame.ended κs args (tt, (tt, (tt, (tt, (tt, (tt, (left, tt))))))))
+  pub meets : write_frame_reads.Learnt κs args r (at_exit write_frame.ended κs args (tt, (tt, (tt, (tt, (tt, (tt, (left, tt))))))))
 
 pub writes : {set : FrameSetting} {xs : List ℤ} {out : List ℕ} {r : WriteAnswer} {left : List ℕ} → WriteFrame set xs out r left → outcome r left ≡ write set xs out
 writes {set} {xs} {out} {r} {left} o =

@@ -27,14 +27,15 @@ use Rattle.demands.proofs.StreamHeaders as laws
 use Rattle.stream.specs.declared.StreamRead.{StreamRead}
 use Rattle.stream.specs.Answers.{stream_at}
 use Rattle.stream.proofs.Outcome.{stream_at-one}
-use Rattle.stream.proofs.read_stream_header as read_stream_header
+use Rattle.stream.specs.contracts.read_stream_header as read_stream_header
+use Rattle.stream.proofs.read_stream_header.Reads as read_stream_header_reads
 
 -- an outcome of `read_stream_header(s)`: it answers r. The contract is the one that Rattle reads off the source.
 pub record ReadStreamHeader (s : List ℕ) (r : StreamRead) : Type 0 where
   pub κs : Lfts (read_stream_header.ended).signature.lifetimes
   pub args : Args (read_stream_header.ended).signature κs
   pub bytes : args.0.now ≡ s
-  pub meets : read_stream_header.Reads.Learnt κs args r (at_exit read_stream_header.ended κs args (tt, tt))
+  pub meets : read_stream_header_reads.Learnt κs args r (at_exit read_stream_header.ended κs args (tt, tt))
 
 pub reads-header : {s : List ℕ} {r : StreamRead} → ReadStreamHeader s r → stream_at r ≡ stream_header_of s
 reads-header {s} {r} o = subst (λ (x : List ℕ). stream_at r ≡ stream_header_of x) o.bytes o.meets

@@ -8,10 +8,14 @@ use Rattle.stream.specs.declared.StreamRead.{StreamRead}
 use Rattle.stream.specs.declared.StartRead.{StartRead}
 use Rattle.stream.specs.declared.BlockHead.{BlockHead}
 use Rattle.stream.specs.Answers.{stream_at, start_at, head_at}
-use Rattle.stream.proofs.read_stream_header
-use Rattle.stream.proofs.read_stream_start
-use Rattle.stream.proofs.read_block_head
-use Rattle.stream.proofs.md5_bytes
+use Rattle.stream.specs.contracts.read_stream_header as read_stream_header
+use Rattle.stream.proofs.read_stream_header.Reads as read_stream_header_reads
+use Rattle.stream.specs.contracts.read_stream_start as read_stream_start
+use Rattle.stream.proofs.read_stream_start.Reads as read_stream_start_reads
+use Rattle.stream.specs.contracts.read_block_head as read_block_head
+use Rattle.stream.proofs.read_block_head.Reads as read_block_head_reads
+use Rattle.stream.specs.contracts.md5_bytes as md5_bytes
+use Rattle.stream.proofs.md5_bytes.Reads as md5_bytes_reads
 
 -- equal answers have equal values and places
 got-one : {A : Type 0} {a b : A} {p q : Place} → got_at a p ≡ got_at b q → (a ≡ b) × (p ≡ q)
@@ -36,14 +40,14 @@ head_at-one (BlockHead.Head l n p) (BlockHead.Refused x) e = absurd (got_not_ref
 head_at-one (BlockHead.Refused x) (BlockHead.Head l n p) e = absurd (got_not_refused (l, n) p x (sym e))
 head_at-one (BlockHead.Refused x) (BlockHead.Refused y) e = ap BlockHead.Refused (refused-one x y e)
 
-pub read_stream_header-one : OneOutcome read_stream_header.ended read_stream_header.Reads.Learnt
+pub read_stream_header-one : OneOutcome read_stream_header.ended read_stream_header_reads.Learnt
 read_stream_header-one κs args r r' left left' p q = (stream_at-one r r' (one_value p q), refl)
 
-pub read_stream_start-one : OneOutcome read_stream_start.ended read_stream_start.Reads.Learnt
+pub read_stream_start-one : OneOutcome read_stream_start.ended read_stream_start_reads.Learnt
 read_stream_start-one κs args r r' left left' p q = (start_at-one r r' (one_value p q), refl)
 
-pub read_block_head-one : OneOutcome read_block_head.ended read_block_head.Reads.Learnt
+pub read_block_head-one : OneOutcome read_block_head.ended read_block_head_reads.Learnt
 read_block_head-one κs args r r' left left' p q = (head_at-one r r' (one_value p q), refl)
 
-pub md5_bytes-one : OneOutcome md5_bytes.ended md5_bytes.Reads.Learnt
+pub md5_bytes-one : OneOutcome md5_bytes.ended md5_bytes_reads.Learnt
 md5_bytes-one κs args r r' left left' p q = (one_value p q, refl)

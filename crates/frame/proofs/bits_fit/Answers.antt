@@ -1,0 +1,12 @@
+-- Whether a frame's bits are the stream's, by the case of the stream's record. Assumes nothing.
+use borrow.Author.Rules.{rules}
+use Rattle.rfc9639.specs.Stream.{bits_fit}
+use Rattle.frame.proofs.bits_fit.Goals as goal
+
+pub returns-in-Unknown : goal.returns-in-Unknown
+unfolding bits_fit
+returns-in-Unknown c = rw c.enum_told-1.given.1
+
+pub returns-in-Known : goal.returns-in-Known
+unfolding bits_fit
+returns-in-Known c = rw c.stream-1.given.1

@@ -1,0 +1,17 @@
+-- Whether a stream can have blocks of a size, by the case of the block. Assumes nothing.
+use borrow.Author.Rules.{rules}
+use borrow.Author.Tests.{lt-ltb, le-ltb}
+use Rattle.rfc9639.specs.Stream.{in_range}
+use Rattle.frame.proofs.block_in_range.Goals as goal
+
+pub returns-in-Unknown : goal.returns-in-Unknown
+unfolding in_range
+returns-in-Unknown c = rw c.enum_told-1.given.1
+
+pub returns-then-size-gt0 : goal.returns-then-size-gt0
+unfolding in_range
+returns-then-size-gt0 c = rw (c.block-1.given.1, lt-ltb _ _ c.if-size-gt0.true)
+
+pub returns-else-size-gt0 : goal.returns-else-size-gt0
+unfolding in_range
+returns-else-size-gt0 c = rw (c.block-1.given.1, le-ltb _ _ c.if-size-gt0.false)

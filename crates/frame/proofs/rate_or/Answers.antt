@@ -1,0 +1,12 @@
+-- The frame's own rate, or else the stream's, by the case of its own. Assumes nothing.
+use borrow.Author.Rules.{rules}
+use Rattle.rfc9639.specs.Stream.{rate_or}
+use Rattle.frame.proofs.rate_or.Goals as goal
+
+pub returns-in-Unknown : goal.returns-in-Unknown
+unfolding rate_or
+returns-in-Unknown c = rw c.enum_told-1.given.1
+
+pub returns-in-Known : goal.returns-in-Known
+unfolding rate_or
+returns-in-Known c = rw c.enum_told-in-Known-1.given.1

@@ -1,0 +1,17 @@
+-- `right_of_mid`: half of a number that fits 32 bits fits them too. Assumes nothing.
+use borrow.Author.Rules.{rules}
+use lib.IntN.{ℤ, ◌-ℤ◌}
+use Rattle.rfc9639.specs.Stereo.{right_of_mid}
+use Rattle.rfc9639.proofs.MachineIntegers.{widen_fits}
+use Rattle.frame.proofs.StereoPairs.{half_of}
+use Rattle.frame.proofs.stereo.right_of_mid.Goals as goal
+
+pub overflow_cast-difference : goal.overflow_cast-difference
+overflow_cast-difference c = widen_fits {z = c.wrapping_sub-difference.result} (record { sfits = c.wrapping_sub-difference.type-inv })
+
+pub returns : goal.returns
+unfolding right_of_mid
+returns c =
+    let d = c in let u = d.before in let t = u.before in let f = t.before.ranges in
+    half_of (λ (a b : ℤ). a -ℤ b) f.mid f.side (record { sfits = t.doubled.type-inv }) (record { sfits = u.wrapping-sub.type-inv }) (record { sfits = d.shift-down.type-inv })
+    (record { sfits = c.low32.type-inv }) t.doubled.ensures u.wrapping-sub.ensures d.shift-down.ensures c.low32.ensures

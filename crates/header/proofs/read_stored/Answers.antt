@@ -1,0 +1,18 @@
+-- The stored bits of a rate, as `input::read_bits` reads them; no bits are 0, where the place is. Assumes nothing.
+use mathlib.Core.Path.{refl, sym, ap, ◌∙◌}
+use borrow.Author.Rules.{rules}
+use Rattle.reading.specs.Readers.{bits}
+use Rattle.reading.specs.Places.{got_at, run_at}
+use Rattle.reading.proofs.ByteRuns.{inside_in}
+use Rattle.input.specs.Answers.{low64, map_at}
+use Rattle.header.proofs.HeaderParts.{bits_none}
+use Rattle.header.proofs.read_stored.Goals as goal
+
+pub returns-then-n-eq0 : goal.returns-then-n-eq0
+unfolding low64 map_at
+returns-then-n-eq0 c =
+    let b = c in
+    rw c.if-n-eq0.true (ap low64 (sym (bits_none (inside_in b.args.s.now b.args.at b.requires))))
+
+pub returns : goal.returns
+returns c = c.read_bits_lem.ensures

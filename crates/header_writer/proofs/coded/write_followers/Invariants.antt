@@ -1,0 +1,10 @@
+-- The loop inks the bytes after the first, the highest bits first; its invariant is Following. Assumes nothing.
+use borrow.Author.Rules.{rules}
+use Rattle.header_writer.proofs.WrittenNumber.{Following, begin, step, end}
+use Rattle.header_writer.proofs.coded.write_followers.Given as goal
+
+abbrev pub invariant-loop-left : goal.invariant-loop-left
+invariant-loop-left l = Following l.v l.n l.initial.p l.initial.out l.left l.p l.out
+
+abbrev pub decreases-loop-left : goal.decreases-loop-left
+decreases-loop-left l = l.left

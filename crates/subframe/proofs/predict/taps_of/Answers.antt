@@ -1,0 +1,23 @@
+-- `taps_of`: after j turns the first j coefficients are stored (Padding). Assumes nothing.
+use Prim.Native.Nat.{◌-◌}
+use native.Mathlib.Omega.{arith}
+use borrow.Author.Rules.{rules}
+use lib.IntN.{pos}
+use lib.ListN.{length, get_or}
+use mir.Syntax.{w32}
+use mir.Val.{SFits}
+use mir.Facts.{to_z-of_z}
+use Rattle.subframe.proofs.PredictionSums.{Padding, pad-begin, pad-step, pad-end}
+use Rattle.subframe.proofs.predict.taps_of.Goals as goal
+
+pub loop-j-init : goal.loop-j-init
+loop-j-init c = pad-begin 32 _
+
+pub loop-j-preserved : goal.loop-j-preserved
+loop-j-preserved c =
+    let l = c in
+    let f : SFits w32 (get_or l.before.args.coefficients.now l.loop.j (pos 0)) = record { sfits = search rules } in
+    rw (to_z-of_z f) (pad-step l.loop.invariant (omega arith) (omega arith))
+
+pub returns : goal.returns
+returns c = pad-end c.loop-j.invariant (omega arith)

@@ -1,0 +1,46 @@
+-- `decode_equal_partitions`: each turn decodes one partition into its part of the slice (Parted). Assumes nothing.
+use native.Mathlib.Omega.{arith}
+use mathlib.Core.Path.{sym}
+use borrow.Author.Rules.{rules}
+use borrow.Author.Tests.{not-true, not-false}
+use Rattle.reading.proofs.ByteRuns.{inside_in, run_at-out}
+use Rattle.rfc9639.specs.Residual.{partition}
+use Rattle.subframe.proofs.Partitions.{Parted, begin, room, part-keeps-length, step, stops, end}
+use Rattle.subframe.proofs.residual.decode_equal_partitions.Goals as goal
+
+pub returns-then-not-is_inside : goal.returns-then-not-is_inside
+returns-then-not-is_inside c = sym (run_at-out _ _ _ (cc (not-true c.is_inside.result c.if-not-is_inside.true)))
+
+pub loop-left-init : goal.loop-left-init
+loop-left-init c =
+    begin _ _ _ _ (inside_in _ _ (cc (not-false c.is_inside.result c.if-not-is_inside.false))) c.requires.1
+
+pub overflow_add-end : goal.overflow_add-end
+overflow_add-end c = omega (arith, room c.loop-left.invariant (omega arith))
+
+pub offset_bounds-out-start : goal.offset_bounds-out-start
+offset_bounds-out-start c = omega (arith, room c.loop-left.invariant (omega arith))
+
+pub part-decode-partition-end-UNKNOWN : goal.part-decode-partition-end-UNKNOWN
+part-decode-partition-end-UNKNOWN c = room c.loop-left.invariant (omega arith)
+
+pub loop-left-preserved : goal.loop-left-preserved
+loop-left-preserved c =
+    let b = c in
+    step b.before.before.before.loop.invariant (omega arith) _ b.decode-partition.ensures c.read-1.given.1 b.decode-partition.auto.1.1.1.0
+
+pub shape_of-out-in-Refused : goal.shape_of-out-in-Refused
+shape_of-out-in-Refused c =
+    let b = c in
+    part-keeps-length b.before.before.before.loop.invariant (omega arith) b.decode-partition.new.1.1.1.0 b.decode-partition.auto.1.1.1.0
+
+pub returns-in-Refused : goal.returns-in-Refused
+returns-in-Refused c =
+    let b = c in
+    stops b.before.before.before.loop.invariant (omega arith) b.decode-partition.new.1.1.1.0 b.decode-partition.ensures c.read-in-Refused-1.given.1
+
+pub shape_of-out : goal.shape_of-out
+shape_of-out c = c.loop-left.invariant.long
+
+pub returns : goal.returns
+returns c = end c.loop-left.invariant (omega arith)

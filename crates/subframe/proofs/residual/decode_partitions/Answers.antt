@@ -1,0 +1,31 @@
+-- `decode_partitions`: the first partition, then the others, each into its part of the slice. Assumes nothing.
+use Prim.Native.Nat.{◌-◌}
+use native.Mathlib.Omega.{arith}
+use mathlib.Core.Path.{ap, sym, ◌∙◌}
+use borrow.Author.Rules.{rules}
+use lib.ListN.{replicate}
+use lib.Seq.{length-take-le}
+use Rattle.reading.specs.Readers.{each}
+use Rattle.rfc9639.specs.Residual.{partition}
+use Rattle.subframe.specs.Answers.{samples_at}
+use Rattle.subframe.proofs.SliceParts.{front-got, front-stops, parts-put}
+use Rattle.subframe.proofs.Partitions.{first_then}
+use Rattle.subframe.proofs.residual.decode_partitions.Goals as goal
+
+pub slice_bounds-decode_partition-end-2 : goal.slice_bounds-decode_partition-end-2
+slice_bounds-decode_partition-end-2 c = sym (length-take-le _ _ (omega arith))
+
+pub returns-in_default : goal.returns-in_default
+unfolding each
+returns-in_default c =
+    let b = c in let a = b.before.before.before.args in let d = b.decode-partition in
+    front-stops (partition a.method) a.s.now a.at (a.size - a.warm) a.out.now (omega arith) d.new.1.1.1.0 d.ensures _ c.enum_told-1.given.1 _
+
+pub returns : goal.returns
+returns c =
+    let b = c in let a = b.before.before.before.args in
+    let d = b.decode-partition in let r = c.decode_equal_partitions in
+    ap (samples_at r.result) (parts-put (a.size - a.warm) a.out.now (omega arith) d.new.1.1.1.0 d.auto.1.1.1.0 r.new.1.1.1.1.1.0)
+    ∙ first_then (partition a.method) (a.size - a.warm) (replicate a.count a.size) a.s.now a.at
+    (front-got (partition a.method) a.s.now a.at (a.size - a.warm) a.out.now (omega arith) d.new.1.1.1.0 d.ensures c.read-1.given.1)
+    r.result r.new.1.1.1.1.1.0 r.ensures

@@ -1,0 +1,43 @@
+-- `decode_rice`: each turn stores one residual (Filling). Assumes nothing.
+use Prim.Native.Nat.{◌-◌, ◌<◌}
+use native.Mathlib.Omega.{arith}
+use mathlib.Core.Path.{refl, ap, sym, ◌∙◌, subst}
+use borrow.Author.Rules.{rules}
+use borrow.Author.Tests.{not-true, not-false}
+use lib.ListN.{length}
+use Rattle.reading.specs.Places.{got_at}
+use Rattle.reading.proofs.ByteRuns.{inside_in, position-place, run_at-out}
+use Rattle.rfc9639.specs.Residual.{rice}
+use Rattle.subframe.specs.Private.{place_after, rice_read_at, StartsInWord}
+use Rattle.subframe.proofs.FilledSlices.{Filling, begin, step, cut, end}
+use Rattle.subframe.proofs.RiceWords.{byte-within}
+use Rattle.subframe.proofs.residual.decode_rice.Goals as goal
+
+pub returns-then-not-is_inside : goal.returns-then-not-is_inside
+returns-then-not-is_inside c = sym (run_at-out _ _ _ (cc (not-true c.is_inside.result c.if-not-is_inside.true)))
+
+pub loop-i-init : goal.loop-i-init
+loop-i-init c =
+    let a = c.args in
+    let here = inside_in a.s.now a.at (cc (not-false c.is_inside.result c.if-not-is_inside.false)) in
+    (rw (position-place a.at here.bit) (begin _ _ here), omega (arith, here.bit))
+
+pub read_rice-read-requires : goal.read_rice-read-requires
+read_rice-read-requires c = let inv = c.loop-i.invariant in (omega arith, byte-within _ inv.0.place, inv.1)
+
+pub loop-i-preserved : goal.loop-i-preserved
+loop-i-preserved c =
+    let b = c in let e = c.read-1.given.1 in (
+      step b.before.before.loop.invariant.0 rice_read_at b.read-rice.ensures.0 e refl (record { sfits = search rules }) (omega arith),
+      subst StartsInWord e b.read-rice.ensures.1,
+    )
+
+pub returns-in-Short : goal.returns-in-Short
+returns-in-Short c =
+    let b = c in cut b.before.before.loop.invariant.0 rice_read_at b.read-rice.ensures.0 c.enum_told-1.given.1 refl (omega arith)
+
+pub place_at-requires : goal.place_at-requires
+place_at-requires c = let inv = c.loop-i.invariant in (omega (arith, byte-within _ inv.0.place), inv.1)
+
+pub returns : goal.returns
+returns c = ap (got_at c.loop-i.out) c.place_at.ensures ∙ end c.loop-i.invariant.0 (omega arith)

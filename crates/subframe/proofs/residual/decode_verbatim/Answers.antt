@@ -1,0 +1,29 @@
+-- `decode_verbatim`: each turn stores one sample (Filling). Assumes nothing.
+use Prim.Native.Nat.{◌-◌}
+use native.Mathlib.Omega.{arith}
+use mathlib.Core.Path.{refl, sym}
+use borrow.Author.Rules.{rules}
+use borrow.Author.Tests.{not-true, not-false}
+use lib.ListN.{length}
+use Rattle.reading.proofs.ByteRuns.{inside_in, run_at-out}
+use Rattle.rfc9639.specs.Integers.{signed_bits}
+use Rattle.subframe.specs.Private.{sample_read_at}
+use Rattle.subframe.proofs.FilledSlices.{Filling, begin, step, cut, end}
+use Rattle.subframe.proofs.residual.decode_verbatim.Goals as goal
+
+pub returns-then-not-is_inside : goal.returns-then-not-is_inside
+returns-then-not-is_inside c = sym (run_at-out _ _ _ (cc (not-true c.is_inside.result c.if-not-is_inside.true)))
+
+pub loop-i-init : goal.loop-i-init
+loop-i-init c = begin _ _ (inside_in _ _ (cc (not-false c.is_inside.result c.if-not-is_inside.false)))
+
+pub loop-i-preserved : goal.loop-i-preserved
+loop-i-preserved c =
+    let b = c in
+    step b.before.before.loop.invariant sample_read_at b.read-sample.ensures c.read-1.given.1 refl (record { sfits = search rules }) (omega arith)
+
+pub returns-in-Short : goal.returns-in-Short
+returns-in-Short c = let b = c in cut b.before.before.loop.invariant sample_read_at b.read-sample.ensures c.enum_told-1.given.1 refl (omega arith)
+
+pub returns : goal.returns
+returns c = end c.loop-i.invariant (omega arith)

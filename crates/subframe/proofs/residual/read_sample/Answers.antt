@@ -1,0 +1,14 @@
+-- `read_sample`: the bits that were read, sign-extended. Assumes nothing.
+use native.Mathlib.Omega.{arith}
+use borrow.Author.Rules.{rules}
+use Rattle.subframe.proofs.SampleReaders.{sample-short, sample-got}
+use Rattle.subframe.proofs.residual.read_sample.Goals as goal
+
+pub returns-in_default : goal.returns-in_default
+returns-in_default c = sample-short _ _ _ (omega arith) c.read_bits_lem.ensures c.enum_told-1.given.1
+
+pub returns : goal.returns
+returns c =
+    let extended = c.sign_extend in
+    sample-got _ _ _ (omega arith) c.read_bits_lem.ensures c.read-1.given.1
+    extended.ensures (record { sfits = extended.type-inv }) c.low32.ensures (record { sfits = c.low32.type-inv })

@@ -1,0 +1,27 @@
+-- `shift_all`: each turn shifts one number (Mapped). Assumes nothing.
+use Prim.Native.Nat.{◌+◌, ◌-◌}
+use native.Mathlib.Omega.{arith}
+use mathlib.Core.Logic.{⊎_elim}
+use mathlib.Core.Path.{sym, subst}
+use mathlib.Core.List.{List}
+use borrow.Author.Rules.{rules}
+use lib.IntN.{ℤ}
+use lib.ListN.{length}
+use Rattle.subframe.proofs.DecodedSubframes.{Mapped, begin, turn, kept, end, shift_none}
+use Rattle.rfc9639.specs.Integers.{shift_up}
+use Rattle.subframe.proofs.shift_all.Goals as goal
+
+pub loop-i-init : goal.loop-i-init
+loop-i-init c = begin _ _
+
+pub loop-i-preserved : goal.loop-i-preserved
+loop-i-preserved c =
+    let l = c.loop-i in
+    let a = c.args in
+    ⊎_elim
+    (λ w. subst (λ (x : List ℤ). Mapped (shift_up a.wasted) a.out.now x (l.i + 1)) (sym w.2) (turn l.invariant _ (omega arith) w.1.ensures (record { sfits = search rules }) (record { sfits = w.1.ok })))
+    (λ w. subst (λ (x : List ℤ). Mapped (shift_up a.wasted) a.out.now x (l.i + 1)) (sym w.1) (kept l.invariant (omega arith) (shift_none (omega (arith, w.0.left)) (record { sfits = search rules }))))
+    c.if-wasted-ne0.branch
+
+pub returns : goal.returns
+returns c = end c.loop-i.invariant (omega arith)

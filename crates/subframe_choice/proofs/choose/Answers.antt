@@ -1,0 +1,16 @@
+-- `choose` meets its contract: a turn for each order (Judged). Assumes nothing.
+use Prim.Native.Nat.{◌-◌}
+use native.Mathlib.Omega.{arith}
+use borrow.Author.Rules.{rules}
+use Rattle.subframe_samples.specs.Sources.{stored_by}
+use Rattle.subframe_choice.proofs.OrderChoice.{Judged, begin, step, end}
+use Rattle.subframe_choice.proofs.choose.Goals as goal
+
+pub loop-order-init : goal.loop-order-init
+loop-order-init c = begin _ _ c.best_plain-best.ensures
+
+pub loop-order-preserved : goal.loop-order-preserved
+loop-order-preserved c = step _ _ c.loop-order.invariant (omega arith) c.better_fixed-best.ensures
+
+pub returns : goal.returns
+returns c = end _ _ c.loop-order.invariant (omega arith)

@@ -1,0 +1,15 @@
+-- `plain_bits` meets its contract: fewer than 2 ^ 16 samples of a u32's bits each. Assumes nothing.
+use Prim.Native.Nat.{◌*◌, ◌^◌, ◌≤◌}
+use native.Mathlib.Omega.{arith}
+use borrow.Author.Rules.{rules}
+use Rattle.number.proofs.ProductSums.{product_at_most}
+use Rattle.subframe_choice.proofs.plain.plain_bits.Goals as goal
+
+few : (c : goal.Start) → c.args.count * c.args.width ≤ 2 ^ 48
+few c = product_at_most (2 ^ 16) (2 ^ 32) c.requires c.ranges.width.fits
+
+pub overflow_mul-result : goal.overflow_mul-result
+overflow_mul-result c = record { fits = omega (arith, few c) }
+
+pub overflow_add-result : goal.overflow_add-result
+overflow_add-result c = record { fits = omega (arith, few c) }

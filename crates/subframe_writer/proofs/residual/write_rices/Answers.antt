@@ -1,0 +1,25 @@
+-- `write_rices` meets its contract: a turn for each residual (Rows). Assumes nothing.
+use Prim.Native.Nat.{◌-◌}
+use native.Mathlib.Omega.{arith}
+use mathlib.Core.Path.{◌∙◌}
+use borrow.Author.Rules.{rules}
+use lib.IntN.{pos}
+use mir.Facts.{to_z-of_z}
+use Rattle.rfc9639.specs.SubframeCoding.{rice_bits, fixed_residuals}
+use Rattle.subframe_samples.specs.Sources.{stored_by}
+use Rattle.rfc9639.proofs.Lengths.{length-fixed_residuals}
+use Rattle.rfc9639.proofs.FrameBits.{bits-rice}
+use Rattle.bit_writer.proofs.RowLoops.{Unwritten, begin, step, end}
+use Rattle.subframe_writer.proofs.residual.write_rices.Goals as goal
+
+pub loop-j-init : goal.loop-j-init
+loop-j-init c = begin _ _
+
+pub loop-j-preserved : goal.loop-j-preserved
+loop-j-preserved c =
+    let w = c in let x = w.before in let l = x.before.before.before in
+    step l.loop.invariant (pos 0) (rw length-fixed_residuals (omega arith)) (to_z-of_z (record { sfits = x.fixed-residual.type-inv }) ∙ x.fixed-residual.ensures.0) (bits-rice _ _)
+    w.write-rice.ensures
+
+pub returns : goal.returns
+returns c = end c.loop-j.invariant (rw length-fixed_residuals (search rules))

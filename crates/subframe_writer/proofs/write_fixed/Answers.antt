@@ -1,0 +1,13 @@
+-- `write_fixed` meets its contract: the warm-up, then the residual. Assumes nothing.
+use borrow.Author.Rules.{rules}
+use Rattle.reading.proofs.NumbersAsBits.{binary_append}
+use Rattle.rfc9639.specs.SubframeCoding.{coded_as}
+use Rattle.rfc9639.proofs.FrameBits.{bits-subframe_header_bits, bits-plain}
+use Rattle.bit_writer.proofs.ConsecutiveWrites.{wrote-once, inked_then}
+use Rattle.subframe_writer.proofs.write_fixed.Goals as goal
+
+pub returns : goal.returns
+unfolding coded_as
+returns c =
+    let w = c in
+    inked_then (wrote-once (binary_append (bits-subframe_header_bits _) (bits-plain _ _)) w.before.before.before.before.write-head-and-plain.ensures) _ w.write-residual.ensures

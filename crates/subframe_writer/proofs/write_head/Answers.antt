@@ -1,0 +1,12 @@
+-- `write_head` meets its contract, field by field. Assumes nothing.
+use borrow.Author.Rules.{rules}
+use Rattle.reading.proofs.NumbersAsBits.{binary-bits_of}
+use Rattle.rfc9639.specs.SubframeCoding.{subframe_header_bits}
+use Rattle.bit_writer.proofs.ConsecutiveWrites.{wrote-once, wrote_after, inked_then}
+use Rattle.subframe_writer.proofs.write_head.Goals as goal
+
+pub returns : goal.returns
+unfolding subframe_header_bits
+returns c =
+    let w3 = c in let w2 = w3.before.before.before.before in let w1 = w2.before.before.before.before in
+    inked_then (wrote_after (wrote-once (binary-bits_of 1 0) w1.write-bits.ensures) (binary-bits_of 6 _) w2.write-bits2.ensures) _ w3.write-bits3.ensures

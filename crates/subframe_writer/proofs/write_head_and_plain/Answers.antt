@@ -1,0 +1,10 @@
+-- `write_head_and_plain` meets its contract: the header, then samples. Assumes nothing.
+use borrow.Author.Rules.{rules}
+use Rattle.rfc9639.proofs.FrameBits.{bits-subframe_header_bits}
+use Rattle.bit_writer.proofs.ConsecutiveWrites.{wrote-once, inked_then}
+use Rattle.subframe_writer.proofs.write_head_and_plain.Goals as goal
+
+pub returns : goal.returns
+returns c =
+    let w = c in
+    inked_then (wrote-once (bits-subframe_header_bits _) w.before.before.before.before.write-head.ensures) _ w.write-plain.ensures

@@ -1,0 +1,34 @@
+-- `write_plain` meets its contract: a turn for each sample (Rows). Assumes nothing.
+use Prim.Native.Nat.{◌-◌}
+use native.Mathlib.Omega.{arith}
+use mathlib.Core.Path.{ap, sym, ◌∙◌}
+use borrow.Author.Rules.{rules}
+use lib.IntN.{pos}
+use lib.ListN.{take, length-take}
+use lib.Seq.{get_or-take}
+use mir.Facts.{to_z-of_z}
+use Rattle.reading.specs.NumbersAsBits.{bits_of}
+use Rattle.reading.proofs.NumbersAsBits.{binary-bits_of}
+use Rattle.rfc9639.specs.SubframeCoding.{plain}
+use Rattle.subframe_samples.specs.Sources.{stored_by}
+use Rattle.bit_writer.specs.PenWrites.{inked}
+use Rattle.bit_writer.proofs.RowLoops.{Unwritten, begin, step, end}
+use Rattle.signed.proofs.SignExtension.{low_bits-low}
+use Rattle.subframe_writer.proofs.SubframePieces.{sample_bits}
+use Rattle.subframe_writer.proofs.write_plain.Goals as goal
+
+pub loop-i-init : goal.loop-i-init
+loop-i-init c = begin _ _
+
+pub loop-i-preserved : goal.loop-i-preserved
+loop-i-preserved c =
+    let w = c in let x = w.before.before.before in let l = x.before.before in
+    let s = l.before.before.before.before in let a = s.args in
+    step l.loop.invariant (pos 0) (rw length-take (omega arith))
+    (to_z-of_z (record { sfits = x.stored-sample.type-inv }) ∙ x.stored-sample.ensures ∙ sym (get_or-take a.most (stored_by a.source a.samples.now) l.loop.i (pos 0) (omega arith)))
+    (binary-bits_of a.width _)
+    (w.write-bits.ensures ∙ ap (λ v. inked (bits_of a.width v) l.loop.p l.loop.out) (w.before.low-bits.ensures ∙ low_bits-low a.width _ s.requires))
+
+pub returns : goal.returns
+unfolding plain
+returns c = end c.loop-i.invariant (rw length-take (search rules))

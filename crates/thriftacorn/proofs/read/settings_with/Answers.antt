@@ -1,0 +1,12 @@
+-- The settings that the five numbers give. Assumes nothing.
+use borrow.Author.Rules.{rules}
+use mathlib.Core.Path.{ap₂}
+use Rattle.rfc9639.specs.declared.StreamBlock.{StreamBlock}
+use Rattle.rfc9639.specs.declared.StreamRecord.{StreamRecord}
+use Rattle.thriftacorn.specs.Exports.{settings_with}
+use Rattle.thriftacorn.proofs.read.settings_with.Goals as goal
+
+pub returns : goal.returns
+unfolding settings_with
+returns c =
+    ap₂ (λ (b : StreamBlock) (r : StreamRecord). record { block = b; stream = r }) c.Block-of.ensures c.record_of.ensures
