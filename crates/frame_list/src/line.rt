@@ -1,7 +1,8 @@
 // A line of text that is built up in an array and written at once: one write per word would be slow.
 ghost use Rattle.io.specs.Counts.{IsPrefixLen};
 
-use libc::STDOUT_FILENO;
+// The number of standard output.
+pub const STDOUT: i32 = 1;
 
 // Longer than any line that is written.
 pub const LINE: usize = 512;
@@ -60,5 +61,5 @@ pub fn put_hex(line: &mut [u8; LINE], start: usize, number: u64) -> usize
 pub fn write_line(line: &mut [u8; LINE], end: usize) {
     let n = put(line, end, b"\n");
     let text: &[u8] = line;
-    io::write_all(STDOUT_FILENO, &text[..n]);
+    io::write_all(STDOUT, &text[..n]);
 }

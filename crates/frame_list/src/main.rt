@@ -29,10 +29,12 @@ ghost use Rattle.frame_list.specs.CardProgress.{Sound, Stays, Refills, Turns, Ru
 
 use error::{Need, Refusal};
 use frame::{Accepted, ReadAnswer};
-use libc::STDIN_FILENO;
 use opening::Opening;
 use report::Said;
 use rfc9639::{SampleRate, Settings, StreamBlock, StreamRecord};
+use std::env::{Env, FillError};
+use std::fs::File;
+use std::io::Stdin;
 use window::Rest;
 
 // How many bytes of the card are in memory at a time. Eight channels of 65,535 verbatim samples of 24 bits take at most
@@ -41,6 +43,11 @@ pub const WINDOW: usize = 2097152;
 
 // Room for eight channels of 65,535 samples, which no frame exceeds.
 const ROOM: usize = 524280;
+
+// The system's error numbers of a name that is too long, and of one that is no text.
+const ENAMETOOLONG: i32 = 36;
+
+const EILSEQ: i32 = 84;
 
 // What the card told so far: how many frames there were, how many samples they had in all channels and in each one, the
 // sample rate, which the stream header gives or else the first frame that has one, the size of the stream's blocks,
@@ -103,10 +110,17 @@ pub enum Turn {
     Over(Last),
 }
 
+// What a card is read from.
+#[derive(Drop)]
+pub enum Source {
+    Input(Stdin),
+    Named(File),
+}
+
 // An open card, or the system's error number.
-#[derive(Clone, Copy)]
+#[derive(Drop)]
 pub enum Opened {
-    At(i32),
+    At(Source),
     Failed(i32),
 }
 
@@ -207,9 +221,9 @@ fn list_frames(bytes: &[u8], base: u64, before: Totals, samples: &mut [i32]) -> 
 }
 
 // What follows on the card when the window is full.
-fn rest_after(fd: i32) -> Rest {
+fn rest_after(source: &Source) -> Rest {
     let mut one = [0u8; 1];
-    let next = window::fill_to(fd, &mut one, 0, 1);
+    let next = window::fill_to(source, &mut one, 0, 1);
     next.rest
 }
 
@@ -240,14 +254,14 @@ fn full(card: Card, place: usize, rest: Rest) -> Turn
 }
 
 // Keeps what the window holds from a place on, and reads more of the card after it.
-fn go_on(fd: i32, card: Card, place: usize, e: Refusal, window: &mut [u8]) -> Turn
+fn go_on(source: &Source, card: Card, place: usize, e: Refusal, window: &mut [u8]) -> Turn
     requires { Sound card (length window.old) × (place ≤ card.held) × (card.rest ≡ RestOf.More) }
     ensures { Refills window.old card place e result window.new }
 {
     let room = window.len();
     let left = card.held - place;
     if left == room {
-        return full(card, place, rest_after(fd));
+        return full(card, place, rest_after(source));
     }
     let base = card.base + place as u64;
     if u64::MAX - base < room as u64 {
@@ -259,7 +273,7 @@ fn go_on(fd: i32, card: Card, place: usize, e: Refusal, window: &mut [u8]) -> Tu
     }
     let totals = card.totals;
     window::shift(window, place, card.held);
-    let filled = window::fill_to(fd, window, left, window::next_wanted(left, room));
+    let filled = window::fill_to(source, window, left, window::next_wanted(left, room));
     let rest = filled.rest;
     Turn::On(Card {
         base,
@@ -270,13 +284,13 @@ fn go_on(fd: i32, card: Card, place: usize, e: Refusal, window: &mut [u8]) -> Tu
 }
 
 // The frame at this place of the window is not complete.
-fn wait(fd: i32, card: Card, place: usize, e: Refusal, window: &mut [u8]) -> Turn
+fn wait(source: &Source, card: Card, place: usize, e: Refusal, window: &mut [u8]) -> Turn
     requires { Sound card (length window.old) × (place ≤ card.held) }
     ensures { Refills window.old card place e result window.new }
 {
     let rest = card.rest;
     match rest {
-        Rest::More => go_on(fd, card, place, e, window),
+        Rest::More => go_on(source, card, place, e, window),
         Rest::Ended => Turn::Over(Last {
             card,
             place,
@@ -291,7 +305,7 @@ fn wait(fd: i32, card: Card, place: usize, e: Refusal, window: &mut [u8]) -> Tur
 }
 
 // Lists the frames in the window, and refills it for those that follow.
-fn advance(fd: i32, card: Card, window: &mut [u8], samples: &mut [i32]) -> Turn
+fn advance(source: &Source, card: Card, window: &mut [u8], samples: &mut [i32]) -> Turn
     requires { Sound card (length window.old) }
     ensures { Turns (length samples.old) window.old card result window.new }
 {
@@ -309,7 +323,7 @@ fn advance(fd: i32, card: Card, window: &mut [u8], samples: &mut [i32]) -> Turn
     };
     let need = error::needs(refusal);
     match need {
-        Need::Wait => wait(fd, read, place, refusal, window),
+        Need::Wait => wait(source, read, place, refusal, window),
         Need::Room => Turn::Over(Last {
             card: read,
             place,
@@ -324,13 +338,13 @@ fn advance(fd: i32, card: Card, window: &mut [u8], samples: &mut [i32]) -> Turn
 }
 
 // From where the frames start to where the run ends.
-fn read_card(fd: i32, start: Card, window: &mut [u8], samples: &mut [i32]) -> Last
+fn read_card(source: &Source, start: Card, window: &mut [u8], samples: &mut [i32]) -> Last
     requires { Sound start (length window.old) }
     ensures { Runs (length samples.old) start (take start.held window.old) result }
 {
     let mut card = start;
     loop {
-        let turn = advance(fd, card, window, samples);
+        let turn = advance(source, card, window, samples);
         match turn {
             Turn::On(next) => card = next,
             Turn::Over(last) => return last,
@@ -368,10 +382,10 @@ fn write_header_over(last: Last)
 }
 
 // The frames of the card and the lines after them.
-fn list_from(fd: i32, start: Card, said: Said, window: &mut [u8], samples: &mut [i32])
+fn list_from(source: &Source, start: Card, said: Said, window: &mut [u8], samples: &mut [i32])
     requires { Sound start (length window.old) }
 {
-    let last = read_card(fd, start, window, samples);
+    let last = read_card(source, start, window, samples);
     let card = last.card;
     let totals = card.totals;
     report::length_line(totals, said);
@@ -379,23 +393,23 @@ fn list_from(fd: i32, start: Card, said: Said, window: &mut [u8], samples: &mut 
 }
 
 // The stream header, if there is one, and the frames.
-fn list_card(fd: i32, window: &mut [u8], samples: &mut [i32])
+fn list_card(source: &Source, window: &mut [u8], samples: &mut [i32])
     requires { length window.old < 2 ^ 64 }
 {
-    let opening = opening::read_opening(fd, window);
+    let opening = opening::read_opening(source, window);
     match opening {
-        Opening::Bare(card) => list_from(fd, card, Said::Nothing, window, samples),
+        Opening::Bare(card) => list_from(source, card, Said::Nothing, window, samples),
         Opening::Stream(info, card) => {
             report::stream_line(card.base, info);
-            list_from(fd, card, Said::Samples(info.samples), window, samples);
+            list_from(source, card, Said::Samples(info.samples), window, samples);
         }
         Opening::Over(last) => write_header_over(last),
     }
 }
 
 // Turns the arrays into slices, away from the function that owns them.
-fn list_into(fd: i32, window: &mut [u8; WINDOW], samples: &mut [i32; ROOM]) {
-    list_card(fd, window, samples);
+fn list_into(source: &Source, window: &mut [u8; WINDOW], samples: &mut [i32; ROOM]) {
+    list_card(source, window, samples);
 }
 
 // What a first argument is, by its first bytes.
@@ -418,55 +432,62 @@ fn word_of(text: &[u8]) -> Word {
     Word::Unknown
 }
 
-// Opens the card of this name.
-fn open_card(name: &[u8]) -> Opened {
-    let fd = os::open_read(name);
-    if fd < 0 {
-        return Opened::Failed(os::errno());
+// Opens the card of this name. std names files by text alone, so any other name is refused.
+fn open_card(rt: &HostRuntime, name: &[u8]) -> Opened {
+    match str::from_utf8(name) {
+        Ok(text) => match File::open(rt, text) {
+            Ok(file) => Opened::At(Source::Named(file)),
+            Err(e) => Opened::Failed(window::number_in(e)),
+        },
+        Err(_) => Opened::Failed(EILSEQ),
     }
-    Opened::At(fd)
 }
 
 // Lists the card of this name.
-fn list_named(name: &[u8], window: &mut [u8; WINDOW], samples: &mut [i32; ROOM]) {
-    let opened = open_card(name);
+fn list_named(rt: &HostRuntime, name: &[u8], window: &mut [u8; WINDOW], samples: &mut [i32; ROOM]) {
+    let opened = open_card(rt, name);
     match opened {
-        Opened::At(fd) => {
-            list_into(fd, window, samples);
-            libc::close(fd);
-        }
+        Opened::At(source) => list_into(&source, window, samples),
         Opened::Failed(error) => report::unopened(error),
     }
 }
 
+// Lists the card on standard input.
+fn list_input(rt: &HostRuntime, window: &mut [u8; WINDOW], samples: &mut [i32; ROOM]) {
+    let source = Source::Input(rt.stdin());
+    list_into(&source, window, samples);
+}
+
 // Does what the first argument asks for.
-fn obey(window: &mut [u8; WINDOW], samples: &mut [i32; ROOM]) {
-    let mut text = io::buffer();
-    let n = os::arg(1, &mut text);
-    let error = os::errno();
-    if error != 0 {
-        report::unopened(error);
-        return;
-    }
-    let word = word_of(&text[..n]);
+fn obey(rt: &HostRuntime, text: &[u8], window: &mut [u8; WINDOW], samples: &mut [i32; ROOM]) {
+    let word = word_of(text);
     match word {
         Word::Help => report::usage(),
-        Word::Input => list_into(STDIN_FILENO, window, samples),
+        Word::Input => list_input(rt, window, samples),
         Word::Unknown => report::unknown_argument(),
-        Word::Name => list_named(&text[..n], window, samples),
+        Word::Name => list_named(rt, text, window, samples),
     }
 }
 
-fn main() {
+fn has_argument(rt: &HostRuntime, number: usize) -> bool {
+    let mut text = io::buffer();
+    match rt.arg(number, &mut text) {
+        Err(FillError::NotPresent) => false,
+        _ => true,
+    }
+}
+
+fn main(rt: HostRuntime) {
     let mut window = [0u8; WINDOW];
     let mut samples = [0i32; ROOM];
-    if 2 < os::arg_count() {
+    if has_argument(&rt, 2) {
         report::two_names();
         return;
     }
-    if os::arg_count() < 2 {
-        list_into(STDIN_FILENO, &mut window, &mut samples);
-        return;
+    let mut text = io::buffer();
+    match rt.arg(1, &mut text) {
+        Ok(n) => obey(&rt, &text[..n], &mut window, &mut samples),
+        Err(FillError::NotPresent) => list_input(&rt, &mut window, &mut samples),
+        Err(FillError::TooLong) => report::unopened(ENAMETOOLONG),
     }
-    obey(&mut window, &mut samples);
 }

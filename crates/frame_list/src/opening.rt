@@ -6,7 +6,7 @@ ghost use Rattle.frame_list.specs.CardProgress.{Sound, pending};
 ghost use Rattle.frame_list.specs.Opening.{told, known_rate, told_card, Hops, Moves, Arrives, Passes, SkipTurns, Skips, Waits, Unstarted, StartTurns, Starts, Opens};
 
 use crate::window::Rest;
-use crate::{Card, How, Last, Totals, Turn, wait, window};
+use crate::{Card, How, Last, Source, Totals, Turn, wait, window};
 use error::Refusal;
 use reading::Place;
 use rfc9639::{SampleRate, StreamBlock, StreamInfo, StreamRecord};
@@ -95,12 +95,12 @@ fn pass_heads(bytes: &[u8], start: usize, done: bool) -> Hop
 }
 
 // Drops the bytes before the place from the window, as far as they are there, and reads more of the card.
-fn refill(fd: i32, card: Card, pass: usize, last: bool, window: &mut [u8]) -> SkipTurn
+fn refill(source: &Source, card: Card, pass: usize, last: bool, window: &mut [u8]) -> SkipTurn
     requires { Sound card (length window.old) }
     ensures { Moves window.old card pass last result window.new }
 {
     let place = number::lesser(pass, card.held);
-    let turn = wait(fd, card, place, Refusal::CutShort, window);
+    let turn = wait(source, card, place, Refusal::CutShort, window);
     match turn {
         Turn::On(next) => SkipTurn::On(Skip {
             card: next,
@@ -137,21 +137,21 @@ fn to_frames(card: Card, pass: usize, window: &mut [u8]) -> SkipTurn
 }
 
 // The place of the next block, or of the first frame, is in the window or not.
-fn pass_on(fd: i32, card: Card, pass: usize, last: bool, window: &mut [u8]) -> SkipTurn
+fn pass_on(source: &Source, card: Card, pass: usize, last: bool, window: &mut [u8]) -> SkipTurn
     requires { Sound card (length window.old) }
     ensures { Passes window.old card pass last result window.new }
 {
     if !last {
-        return refill(fd, card, pass, last, window);
+        return refill(source, card, pass, last, window);
     }
     if card.held < pass {
-        return refill(fd, card, pass, last, window);
+        return refill(source, card, pass, last, window);
     }
     to_frames(card, pass, window)
 }
 
 // Passes the blocks whose heads are in the window, and refills it for those that follow.
-fn skip_turn(fd: i32, skip: Skip, window: &mut [u8]) -> SkipTurn
+fn skip_turn(source: &Source, skip: Skip, window: &mut [u8]) -> SkipTurn
     requires { Sound skip.card (length window.old) }
     ensures { SkipTurns window.old skip result window.new }
 {
@@ -159,7 +159,7 @@ fn skip_turn(fd: i32, skip: Skip, window: &mut [u8]) -> SkipTurn
     let held = card.held;
     let to = pass_heads(&window[..held], skip.pass, skip.last);
     match to {
-        Hop::At(pass, last) => pass_on(fd, card, pass, last, window),
+        Hop::At(pass, last) => pass_on(source, card, pass, last, window),
         Hop::Refused(e) => SkipTurn::Over(Last {
             card,
             place: 0,
@@ -169,13 +169,13 @@ fn skip_turn(fd: i32, skip: Skip, window: &mut [u8]) -> SkipTurn
 }
 
 // Passes the metadata blocks to where the frames start.
-fn skip_blocks(fd: i32, start: Skip, window: &mut [u8]) -> SkipEnd
+fn skip_blocks(source: &Source, start: Skip, window: &mut [u8]) -> SkipEnd
     requires { Sound start.card (length window.old) × (start.card.base ≡ 0) × (0 < start.pass) }
     ensures { Skips (take start.card.held window.old) start result window.new }
 {
     let mut skip = start;
     loop {
-        let turn = skip_turn(fd, skip, window);
+        let turn = skip_turn(source, skip, window);
         match turn {
             SkipTurn::On(next) => skip = next,
             SkipTurn::Frames(card) => return SkipEnd::Frames(card),
@@ -197,7 +197,7 @@ fn is_over(rest: Rest) -> bool
 
 // The first bytes are too few for the mark and STREAMINFO. Fewer than four are no mark, so a card that ends there is
 // left to the reader of frames.
-fn short_start(fd: i32, card: Card, window: &mut [u8]) -> StartTurn
+fn short_start(source: &Source, card: Card, window: &mut [u8]) -> StartTurn
     requires { Sound card (length window.old) }
     ensures { Waits window.old card result window.new }
 {
@@ -207,7 +207,7 @@ fn short_start(fd: i32, card: Card, window: &mut [u8]) -> StartTurn
             return StartTurn::Bare(card);
         }
     }
-    let turn = wait(fd, card, 0, Refusal::CutShort, window);
+    let turn = wait(source, card, 0, Refusal::CutShort, window);
     match turn {
         Turn::On(next) => StartTurn::On(next),
         Turn::Over(last) => StartTurn::Over(last),
@@ -215,13 +215,13 @@ fn short_start(fd: i32, card: Card, window: &mut [u8]) -> StartTurn
 }
 
 // The first bytes are no mark, or what follows it is no STREAMINFO, or they are too few.
-fn no_start(fd: i32, card: Card, e: Refusal, window: &mut [u8]) -> StartTurn
+fn no_start(source: &Source, card: Card, e: Refusal, window: &mut [u8]) -> StartTurn
     requires { Sound card (length window.old) }
     ensures { Unstarted window.old card e result window.new }
 {
     let number = error::number_of(e);
     if number == 2 {
-        return short_start(fd, card, window);
+        return short_start(source, card, window);
     }
     if number == 3 {
         return StartTurn::Bare(card);
@@ -234,7 +234,7 @@ fn no_start(fd: i32, card: Card, e: Refusal, window: &mut [u8]) -> StartTurn
 }
 
 // Looks at the card's first bytes.
-fn start_turn(fd: i32, card: Card, window: &mut [u8]) -> StartTurn
+fn start_turn(source: &Source, card: Card, window: &mut [u8]) -> StartTurn
     requires { Sound card (length window.old) }
     ensures { StartTurns window.old card result window.new }
 {
@@ -242,12 +242,12 @@ fn start_turn(fd: i32, card: Card, window: &mut [u8]) -> StartTurn
     let start = stream::read_stream_start(&window[..held]);
     match start {
         StartRead::Start(last, info, pass) => StartTurn::Header(info, Skip { card, pass, last }),
-        StartRead::Refused(e) => no_start(fd, card, e, window),
+        StartRead::Refused(e) => no_start(source, card, e, window),
     }
 }
 
 // The mark and STREAMINFO, if the card starts with a mark.
-fn read_start(fd: i32, window: &mut [u8]) -> Started
+fn read_start(source: &Source, window: &mut [u8]) -> Started
     requires { length window.old < 2 ^ 64 }
     ensures { Starts window.new result }
 {
@@ -265,7 +265,7 @@ fn read_start(fd: i32, window: &mut [u8]) -> Started
         },
     };
     loop {
-        let turn = start_turn(fd, card, window);
+        let turn = start_turn(source, card, window);
         match turn {
             StartTurn::On(next) => card = next,
             StartTurn::Bare(bare) => return Started::Bare(bare),
@@ -312,15 +312,15 @@ fn told_card(info: StreamInfo, card: Card) -> Card
 }
 
 // Reads the card up to where its frames start.
-pub fn read_opening(fd: i32, window: &mut [u8]) -> Opening
+pub fn read_opening(source: &Source, window: &mut [u8]) -> Opening
     requires { length window.old < 2 ^ 64 }
     ensures { Opens window.new result }
 {
-    let started = read_start(fd, window);
+    let started = read_start(source, window);
     match started {
         Started::Bare(card) => Opening::Bare(card),
         Started::Header(info, skip) => {
-            let skipped = skip_blocks(fd, skip, window);
+            let skipped = skip_blocks(source, skip, window);
             match skipped {
                 SkipEnd::Frames(card) => Opening::Stream(info, told_card(info, card)),
                 SkipEnd::Over(last) => Opening::Over(last),

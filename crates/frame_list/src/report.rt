@@ -2,11 +2,10 @@
 // last one that says how it ended.
 ghost use Rattle.io.specs.Counts.{IsPrefixLen};
 
-use crate::line::{LINE, put, put_field, put_hex, write_line};
+use crate::line::{LINE, STDOUT, put, put_field, put_hex, write_line};
 use crate::{Totals, WINDOW};
 use error::{Need, Refusal};
 use frame::Accepted;
-use libc::STDOUT_FILENO;
 use rfc9639::{FirstSample, SampleRate, Sizes, StreamBlock, StreamInfo, StreamRecord};
 
 // How many samples of a channel the stream header says that there are: 0 says that its writer did not know.
@@ -351,7 +350,7 @@ pub fn unknown_argument() {
 // How the program is called.
 pub fn usage() {
     io::write_all(
-        STDOUT_FILENO,
+        STDOUT,
         b"usage: frame_list [FILE | - | --help]\nLists the stream header and the frames of a FLAC file, or of a card of bare frames: of FILE, or of standard input.\n",
     );
 }

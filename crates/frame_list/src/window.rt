@@ -1,8 +1,14 @@
 // The window on the card: bytes that are still needed move to its front, and more of the card is read in after them.
 ghost use Rattle.std.specs.Prelude.{◌-◌, ◌≤◌, ◌<◌, ◌≡◌, length, take, drop};
+ghost use Rattle.std.specs.Io.{ReadsAtMost};
 ghost use Rattle.frame_list.specs.Window.{ReadAfter, Fills};
 
-use libc::EINTR;
+use crate::Source;
+use std::io;
+use std::io::Read;
+
+// The system's error number of a call that a signal interrupted.
+const EINTR: i32 = 4;
 
 // What one system read did: it read that many bytes, found the end of the card, was interrupted, or failed with the
 // system's error number.
@@ -49,35 +55,62 @@ pub fn shift(window: &mut [u8], used: usize, held: usize)
     }
 }
 
+// The system's error number, or 0 if the error has none.
+pub fn number_in(error: io::Error) -> i32 {
+    match error.raw_os_error() {
+        Some(number) => number,
+        None => 0,
+    }
+}
+
+// One read of the system's.
+fn read_some(source: &Source, buffer: &mut [u8]) -> io::Result<usize>
+    ensures { ReadsAtMost result buffer.new }
+{
+    match source {
+        Source::Input(input) => {
+            let mut input = input;
+            input.read(buffer)
+        }
+        Source::Named(file) => {
+            let mut file = file;
+            file.read(buffer)
+        }
+    }
+}
+
 // One read, into the window after the bytes it holds. Those stay as they are.
-fn read_once(fd: i32, window: &mut [u8], held: usize) -> SystemRead
+fn read_once(source: &Source, window: &mut [u8], held: usize) -> SystemRead
     requires { held < length window.old }
     ensures { ReadAfter window.old held result window.new }
 {
-    let got = libc::read(fd, &mut window[held..]);
-    if got < 0 {
-        let error = os::errno();
-        if error == EINTR {
-            return SystemRead::Interrupted;
+    let got = read_some(source, &mut window[held..]);
+    match got {
+        Ok(n) => {
+            if n == 0 {
+                return SystemRead::Ended;
+            }
+            SystemRead::Bytes(n)
         }
-        return SystemRead::Failed(error);
+        Err(e) => {
+            let error = number_in(e);
+            if error == EINTR {
+                return SystemRead::Interrupted;
+            }
+            SystemRead::Failed(error)
+        }
     }
-    let n = io::count(got, &window[held..]);
-    if n == 0 {
-        return SystemRead::Ended;
-    }
-    SystemRead::Bytes(n)
 }
 
 // Reads on after the bytes that are held, which stay as they are, until `wanted` bytes are held or there are no more.
-pub fn fill_to(fd: i32, window: &mut [u8], before: usize, wanted: usize) -> Filled
+pub fn fill_to(source: &Source, window: &mut [u8], before: usize, wanted: usize) -> Filled
     requires { (before ≤ length window.old) × (wanted ≤ length window.old) }
     ensures { Fills window.old before wanted result window.new }
 {
     let mut held = before;
     let mut tries = TRIES;
     while held < wanted {
-        let got = read_once(fd, window, held);
+        let got = read_once(source, window, held);
         match got {
             SystemRead::Bytes(n) => held += n,
             SystemRead::Ended => {

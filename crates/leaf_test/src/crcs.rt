@@ -1,7 +1,6 @@
 // Both check sums, in hexadecimal.
-use crate::show::{equals, mark, part, show_bytes, text};
+use crate::show::{STDOUT, equals, mark, part, show_bytes, text};
 use crc::{crc8, crc16};
-use libc::STDOUT_FILENO;
 
 fn both(data: &[u8], from: usize, to: usize) {
     let s = part(data, from, to);
@@ -9,9 +8,9 @@ fn both(data: &[u8], from: usize, to: usize) {
     show_bytes(s);
     equals();
     mark(b' ');
-    io::print_hex(STDOUT_FILENO, crc8(s) as u64, 2);
+    io::print_hex(STDOUT, crc8(s) as u64, 2);
     mark(b' ');
-    io::print_hex(STDOUT_FILENO, crc16(s) as u64, 4);
+    io::print_hex(STDOUT, crc16(s) as u64, 4);
     mark(b'\n');
 }
 

@@ -1,9 +1,8 @@
 // claxon's tests of bit reading (input.rs), with its data and its steps, and one of what claxon leaves undefined. The
 // data is on a line of its own. Then each step has a line: `b` for one bit, b17 for `read_bits` of 17 bits, `u` for
 // `read_unary`; the place that it starts at; the value and the place after it, or nothing where the input is short.
-use crate::show::{equals, mark, part, show_bytes, show_number, show_place, text};
+use crate::show::{STDOUT, equals, mark, part, show_bytes, show_number, show_place, text};
 use input::{Bits, read_bits, read_unary, word_from};
-use libc::STDOUT_FILENO;
 use reading::Place;
 
 // A step is a number of bits, or a letter: b for one bit, u for `read_unary`.
@@ -104,7 +103,7 @@ fn word(data: &[u8], to: usize, byte: usize) {
     show_number(b' ', byte as u64);
     equals();
     mark(b' ');
-    io::print_hex(STDOUT_FILENO, word_from(s, byte), 16);
+    io::print_hex(STDOUT, word_from(s, byte), 16);
     mark(b'\n');
 }
 

@@ -2,24 +2,26 @@
 // times as long to prove as one with numbers. So separators are bytes, and the data of many cases is one byte string,
 // of which each case names a part.
 use error::{Refusal, number_of};
-use libc::STDOUT_FILENO;
 use reading::Place;
 use signed::low_bits;
 use std::num::wrapping_sub_u64;
 
+// The number of standard output.
+pub const STDOUT: i32 = 1;
+
 pub fn text(s: &[u8]) {
-    io::write_all(STDOUT_FILENO, s);
+    io::write_all(STDOUT, s);
 }
 
 pub fn mark(c: u8) {
     let s = [c];
-    io::write_all(STDOUT_FILENO, &s);
+    io::write_all(STDOUT, &s);
 }
 
 // A byte, then a number.
 pub fn show_number(before: u8, x: u64) {
     mark(before);
-    io::print_decimal(STDOUT_FILENO, x);
+    io::print_decimal(STDOUT, x);
 }
 
 // A space, then a number with its sign.
@@ -51,7 +53,7 @@ pub fn values32(xs: &[i32]) {
 }
 
 fn byte(x: u8) {
-    io::print_hex(STDOUT_FILENO, x as u64, 2);
+    io::print_hex(STDOUT, x as u64, 2);
 }
 
 // Bytes in hexadecimal.

@@ -17,12 +17,16 @@
 ghost use Rattle.std.specs.Prelude.{◌≡◌, ◌+◌, ◌≤◌, length};
 
 use frame::ReadAnswer;
-use libc::{STDIN_FILENO, STDOUT_FILENO};
 use rfc9639::{FirstSample, Settings, StreamBlock, StreamRecord};
+
+// The numbers of standard input and standard output.
+const STDIN: i32 = 0;
+
+const STDOUT: i32 = 1;
 
 fn write_refusal(number: u8) {
     let bytes = probe_records::answer_bytes(number, 0, FirstSample::Unknown, 0, 0, 0);
-    io::write_all(STDOUT_FILENO, &bytes);
+    io::write_all(STDOUT, &bytes);
 }
 
 fn write_answer(answer: ReadAnswer) {
@@ -37,7 +41,7 @@ fn write_answer(answer: ReadAnswer) {
                 f.bits as u64,
                 f.size as u64,
             );
-            io::write_all(STDOUT_FILENO, &bytes);
+            io::write_all(STDOUT, &bytes);
         }
         ReadAnswer::Refused(e) => write_refusal(error::number_of(e)),
     }
@@ -46,7 +50,7 @@ fn write_answer(answer: ReadAnswer) {
 fn write_first(bytes: &[u8], n: usize)
     requires { (length bytes.now ≡ 524288) × (n ≤ 524288) }
 {
-    io::write_all(STDOUT_FILENO, &bytes[..n]);
+    io::write_all(STDOUT, &bytes[..n]);
 }
 
 // Places of eight bytes, at once: one write for each would be slow.
@@ -70,7 +74,7 @@ fn write_samples(samples: &[i32])
         out[4 * i + 3] = b[3];
         i += 1;
     }
-    io::write_all(STDOUT_FILENO, &out[..4 * samples.len()]);
+    io::write_all(STDOUT, &out[..4 * samples.len()]);
 }
 
 // Fills the samples, reads once, and writes the answer and the samples.
@@ -134,7 +138,7 @@ fn run(input: &[u8], n: usize, samples: &mut [i32])
     let stream_given = input[13];
     let wide = number_at(input, 20) as usize;
     if 65536 < room || 65536 < wide || 1 < block_given || 1 < stream_given {
-        io::write_all(STDOUT_FILENO, &[11]);
+        io::write_all(STDOUT, &[11]);
         return;
     }
     let set = Settings {
@@ -149,6 +153,6 @@ fn run(input: &[u8], n: usize, samples: &mut [i32])
 fn main() {
     let mut input = [0u8; 65568];
     let mut samples = [0i32; 65536];
-    let n = io::read_full(STDIN_FILENO, &mut input);
+    let n = io::read_full(STDIN, &mut input);
     run(&input, n, &mut samples);
 }

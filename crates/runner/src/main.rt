@@ -7,8 +7,12 @@
 ghost use Rattle.std.specs.Prelude.{◌*◌, ◌≤◌, length};
 
 use frame::{Accepted, ReadAnswer};
-use libc::{STDIN_FILENO, STDOUT_FILENO};
 use rfc9639::Settings;
+
+// The numbers of standard input and standard output.
+const STDIN: i32 = 0;
+
+const STDOUT: i32 = 1;
 
 // The record is that of the probe programs without the byte that says whether the first sample's number is known. Here
 // it always is: the first frame has a header, so its size is the stream's.
@@ -22,8 +26,8 @@ fn write_report(f: Accepted) {
         f.bits as u64,
         f.size as u64,
     );
-    io::write_all(STDOUT_FILENO, &bytes[..5]);
-    io::write_all(STDOUT_FILENO, &bytes[6..]);
+    io::write_all(STDOUT, &bytes[..5]);
+    io::write_all(STDOUT, &bytes[6..]);
 }
 
 // Writes the first n samples at once: one write per sample would be slow.
@@ -40,7 +44,7 @@ fn write_samples(samples: &[i32], n: usize)
         out[5 * i + 4] = b[3];
         i += 1;
     }
-    io::write_all(STDOUT_FILENO, &out[..5 * n]);
+    io::write_all(STDOUT, &out[..5 * n]);
 }
 
 // Writes what was read at a place, and returns the next place: the same one after a refusal.
@@ -57,7 +61,7 @@ fn step(bytes: &[u8], place: usize, set: Settings, samples: &mut [i32]) -> usize
             next.place
         }
         ReadAnswer::Refused(e) => {
-            io::write_all(STDOUT_FILENO, &[3, error::number_of(e)]);
+            io::write_all(STDOUT, &[3, error::number_of(e)]);
             place
         }
     }
@@ -82,6 +86,6 @@ fn run(bytes: &[u8], samples: &mut [i32])
 fn main() {
     let mut bytes = [0u8; 32768];
     let mut samples = [0i32; 8192];
-    let n = io::read_full(STDIN_FILENO, &mut bytes);
+    let n = io::read_full(STDIN, &mut bytes);
     run(&bytes[..n], &mut samples);
 }

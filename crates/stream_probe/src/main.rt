@@ -7,21 +7,25 @@
 
 ghost use Rattle.std.specs.Prelude.{◌≤◌, length};
 
-use libc::{STDIN_FILENO, STDOUT_FILENO};
 use rfc9639::{Md5, StreamInfo};
 use stream::StreamRead;
+
+// The numbers of standard input and standard output.
+const STDIN: i32 = 0;
+
+const STDOUT: i32 = 1;
 
 // The low bytes of a number, at most four.
 fn write_number(v: u64, bytes: usize)
     requires { bytes ≤ 4 }
 {
     let all = probe_records::four_bytes(v);
-    io::write_all(STDOUT_FILENO, &all[..bytes]);
+    io::write_all(STDOUT, &all[..bytes]);
 }
 
 fn write_md5(md5: Md5) {
     let bytes = stream::md5_bytes(md5);
-    io::write_all(STDOUT_FILENO, &bytes);
+    io::write_all(STDOUT, &bytes);
 }
 
 fn write_header(info: StreamInfo, consumed: usize) {
@@ -43,7 +47,7 @@ fn write_header(info: StreamInfo, consumed: usize) {
 fn write_refusal(number: u8) {
     let zeros = [0u8; 46];
     write_number(number as u64, 1);
-    io::write_all(STDOUT_FILENO, &zeros);
+    io::write_all(STDOUT, &zeros);
 }
 
 fn probe(bytes: &[u8]) {
@@ -62,6 +66,6 @@ fn run(input: &[u8], n: usize)
 
 fn main() {
     let mut input = [0u8; 65536];
-    let n = io::read_full(STDIN_FILENO, &mut input);
+    let n = io::read_full(STDIN, &mut input);
     run(&input, n);
 }

@@ -8,7 +8,11 @@
 ghost use Rattle.std.specs.Prelude.{◌≡◌, ◌*◌, ◌≤◌, ◌+◌, length};
 
 use frame_writer::WriteAnswer;
-use libc::{STDIN_FILENO, STDOUT_FILENO};
+
+// The numbers of standard input and standard output.
+const STDIN: i32 = 0;
+
+const STDOUT: i32 = 1;
 
 fn write_head(number: u8, length: u64) {
     let head = [
@@ -18,7 +22,7 @@ fn write_head(number: u8, length: u64) {
         (length / 256 / 256 % 256) as u8,
         (length / 256 / 256 / 256 % 256) as u8,
     ];
-    io::write_all(STDOUT_FILENO, &head);
+    io::write_all(STDOUT, &head);
 }
 
 fn write_answer(answer: WriteAnswer) {
@@ -94,13 +98,13 @@ fn run(input: &[u8], n: usize, samples: &mut [i32], out: &mut [u8])
         &mut out[..room],
     );
     write_answer(answer);
-    io::write_all(STDOUT_FILENO, &out[..room]);
+    io::write_all(STDOUT, &out[..room]);
 }
 
 fn main() {
     let mut input = [0u8; 65556];
     let mut samples = [0i32; 16384];
     let mut out = [0u8; 32768];
-    let n = io::read_full(STDIN_FILENO, &mut input);
+    let n = io::read_full(STDIN, &mut input);
     run(&input, n, &mut samples, &mut out);
 }

@@ -1,0 +1,22 @@
+-- `frames::opening::short_start` meets its contract: a refill from the window's first byte. Assumes nothing.
+use mathlib.Core.Path.{refl, sym, ◌∙◌}
+use borrow.Author.Tests.{eqb-true}
+use Rattle.error.specs.declared.Refusal.{Refusal}
+use Rattle.frame_list.proofs.CardTurns.{refills_on, refills_over}
+use borrow.Author.Rules.{rules}
+use Rattle.frame_list.proofs.opening.short_start.Goals as goal
+
+pub returns-then-card-lt4 : goal.returns-then-card-lt4
+returns-then-card-lt4 c = (refl, refl, c.if-card-lt4.true, eqb-true _ 0 (sym c.is_over.ensures ∙ c.if-is_over.true))
+
+pub returns-in-On : goal.returns-in-On
+returns-in-On c =
+    let a = c in
+    let w = c in
+    refills_on a.args.window.now w.wait.new.1.1.1.1.0 a.args.card 0 Refusal.CutShort w.wait.result w.wait.ensures c.turn-1.given.1
+
+pub returns-in-Over : goal.returns-in-Over
+returns-in-Over c =
+    let a = c in
+    let w = c in
+    refills_over a.args.window.now w.wait.new.1.1.1.1.0 a.args.card 0 Refusal.CutShort w.wait.result w.wait.ensures c.turn-in-Over-1.given.1
