@@ -20,5 +20,5 @@ returns-then-saturating_sub-j c = let s = c in (sym (fixed_residuals-past-end s.
 pub returns : goal.returns
 returns c =
     let s = c in
-    let f : SFits w64 c.residual_at.result = record { sfits = c.residual_at.type-inv } in
+    let f : SFits w64 c.residual_at.result = record { sfits = c.residual_at.type_inv } in
     rw (to_z-of_z f) (c.residual_at.ensures.0 ∙ sym (fixed_residuals_at s.args.order (xs s) s.args.j (omega arith)), c.residual_at.ensures.1)

@@ -6,7 +6,7 @@ use Rattle.subframe_samples.proofs.Predictions.{coefficient-product-fits, produc
 use Rattle.subframe_samples.proofs.predict.add_product.Goals as goal
 
 read : (c : goal.After-sample_at) → SFits w64 c.sample_at.result
-read c = record { sfits = c.sample_at.type-inv }
+read c = record { sfits = c.sample_at.type_inv }
 
 pub overflow_mul-result : goal.overflow_mul-result
 overflow_mul-result c =

@@ -15,7 +15,7 @@ Products s rest k r = PredictionSoFar 1 rest (stored_by s.args.source s.args.sam
 
 one : (c : goal.After-add_product) → Products c [] 1 c.add_product.result
 unfolding fixed_coefficients
-one c = step (begin 1 _ _) (omega arith) (omega arith) (record { sfits = c.add_product.type-inv }) c.add_product.ensures
+one c = step (begin 1 _ _) (omega arith) (omega arith) (record { sfits = c.add_product.type_inv }) c.add_product.ensures
 
 pub returns : goal.returns
 returns c = end (one c) (omega arith)

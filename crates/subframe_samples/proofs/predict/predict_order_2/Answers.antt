@@ -15,13 +15,13 @@ Products s rest k r = PredictionSoFar 2 rest (stored_by s.args.source s.args.sam
 
 one : (c : goal.After-add_product-one) → Products c (negsuc 0 ∷ []) 1 c.add_product-one.result
 unfolding fixed_coefficients
-one c = step (begin 2 _ _) (omega arith) (omega arith) (record { sfits = c.add_product-one.type-inv }) c.add_product-one.ensures
+one c = step (begin 2 _ _) (omega arith) (omega arith) (record { sfits = c.add_product-one.type_inv }) c.add_product-one.ensures
 
 pub add_product-requires : goal.add_product-requires
 add_product-requires c = (search rules, room (one c) (omega arith), search rules)
 
 two : (c : goal.After-add_product) → Products c [] 2 c.add_product.result
-two c = step (one c) (omega arith) (omega arith) (record { sfits = c.add_product.type-inv }) c.add_product.ensures
+two c = step (one c) (omega arith) (omega arith) (record { sfits = c.add_product.type_inv }) c.add_product.ensures
 
 pub returns : goal.returns
 returns c = end (two c) (omega arith)

@@ -15,19 +15,19 @@ Products s rest k r = PredictionSoFar 3 rest (stored_by s.args.source s.args.sam
 
 one : (c : goal.After-add_product-one) → Products c (negsuc 2 ∷ pos 1 ∷ []) 1 c.add_product-one.result
 unfolding fixed_coefficients
-one c = step (begin 3 _ _) (omega arith) (omega arith) (record { sfits = c.add_product-one.type-inv }) c.add_product-one.ensures
+one c = step (begin 3 _ _) (omega arith) (omega arith) (record { sfits = c.add_product-one.type_inv }) c.add_product-one.ensures
 
 pub add_product-two-requires : goal.add_product-two-requires
 add_product-two-requires c = (search rules, room (one c) (omega arith), search rules)
 
 two : (c : goal.After-add_product-two) → Products c (pos 1 ∷ []) 2 c.add_product-two.result
-two c = step (one c) (omega arith) (omega arith) (record { sfits = c.add_product-two.type-inv }) c.add_product-two.ensures
+two c = step (one c) (omega arith) (omega arith) (record { sfits = c.add_product-two.type_inv }) c.add_product-two.ensures
 
 pub add_product-requires : goal.add_product-requires
 add_product-requires c = (search rules, room (two c) (omega arith), search rules)
 
 three : (c : goal.After-add_product) → Products c [] 3 c.add_product.result
-three c = step (two c) (omega arith) (omega arith) (record { sfits = c.add_product.type-inv }) c.add_product.ensures
+three c = step (two c) (omega arith) (omega arith) (record { sfits = c.add_product.type_inv }) c.add_product.ensures
 
 pub returns : goal.returns
 returns c = end (three c) (omega arith)

@@ -21,16 +21,16 @@ pub returns-then-order-eq0 : goal.returns-then-order-eq0
 returns-then-order-eq0 c = (predicted-none (xs c) c.args.i ∙ same c c.if-order-eq0.true, omega arith)
 
 pub returns-then-order-eq1 : goal.returns-then-order-eq1
-returns-then-order-eq1 c = same-coefficients (record { sfits = c.predict_order_1.type-inv }) c.predict_order_1.ensures (same c c.if-order-eq1.true)
+returns-then-order-eq1 c = same-coefficients (record { sfits = c.predict_order_1.type_inv }) c.predict_order_1.ensures (same c c.if-order-eq1.true)
 
 pub returns-then-order-eq2 : goal.returns-then-order-eq2
-returns-then-order-eq2 c = same-coefficients (record { sfits = c.predict_order_2.type-inv }) c.predict_order_2.ensures (same c c.if-order-eq2.true)
+returns-then-order-eq2 c = same-coefficients (record { sfits = c.predict_order_2.type_inv }) c.predict_order_2.ensures (same c c.if-order-eq2.true)
 
 pub returns-then-order-eq3 : goal.returns-then-order-eq3
-returns-then-order-eq3 c = same-coefficients (record { sfits = c.predict_order_3.type-inv }) c.predict_order_3.ensures (same c c.if-order-eq3.true)
+returns-then-order-eq3 c = same-coefficients (record { sfits = c.predict_order_3.type_inv }) c.predict_order_3.ensures (same c c.if-order-eq3.true)
 
 pub returns : goal.returns
 returns c =
     let d = c in let s = d.before.before.before.before in
-    same-coefficients (record { sfits = c.predict_order_4.type-inv }) c.predict_order_4.ensures
+    same-coefficients (record { sfits = c.predict_order_4.type_inv }) c.predict_order_4.ensures
     (predicted_above (xs s) s.args.i d.before.before.before.if1.false d.before.before.if2.false d.before.if3.false d.if4.false)

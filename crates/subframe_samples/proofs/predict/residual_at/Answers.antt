@@ -7,10 +7,10 @@ use Rattle.subframe_samples.proofs.predict.residual_at.Goals as goal
 
 module _ (c : goal.After-predicted_at) where
   read : SFits w64 c.sample_at-x.result
-  read = record { sfits = c.sample_at-x.type-inv }
+  read = record { sfits = c.sample_at-x.type_inv }
 
   made : SFits w64 c.predicted_at.result
-  made = record { sfits = c.predicted_at.type-inv }
+  made = record { sfits = c.predicted_at.type_inv }
 
 pub overflow_sub-result : goal.overflow_sub-result
 overflow_sub-result c = residual-fits (read c) (made c) c.sample_at-x.ensures.1 c.predicted_at.ensures.1

@@ -20,4 +20,4 @@ overflow_add-left c = sum_fits_64 c.ranges.left c.ranges.right
 pub returns : goal.returns
 unfolding mid_of
 returns c =
-    to_z-of_z (record { sfits = c.half.type-inv }) ∙ c.half.ensures ∙ ap (shift_down 1) (sum-exact c.ranges.left c.ranges.right)
+    to_z-of_z (record { sfits = c.half.type_inv }) ∙ c.half.ensures ∙ ap (shift_down 1) (sum-exact c.ranges.left c.ranges.right)

@@ -50,7 +50,7 @@ pub returns-in-Mid : goal.returns-in-Mid
 returns-in-Mid c =
     let p = c in let t = p.before in let s = t.before.before.before in
     both-sample (stored-mid s.args.source.size s.args.samples.now t.enum_told.given.1) s.args.i s.requires mid_abs
-    (record { sfits = search rules }) (record { sfits = search rules }) p.pair-at.ensures (record { sfits = c.mid.type-inv }) c.mid.ensures
+    (record { sfits = search rules }) (record { sfits = search rules }) p.pair-at.ensures (record { sfits = c.mid.type_inv }) c.mid.ensures
 
 pub pair_at-pair-requires-in-Side : goal.pair_at-pair-requires-in-Side
 pair_at-pair-requires-in-Side c =
@@ -61,4 +61,4 @@ pub returns-in-Side : goal.returns-in-Side
 returns-in-Side c =
     let p = c in let t = p.before in let s = t.before.before.before in
     both-sample (stored-side s.args.source.size s.args.samples.now t.enum-told2.given.1) s.args.i s.requires side_abs
-    (record { sfits = search rules }) (record { sfits = search rules }) p.pair-at2.ensures (record { sfits = c.side.type-inv }) c.side.ensures
+    (record { sfits = search rules }) (record { sfits = search rules }) p.pair-at2.ensures (record { sfits = c.side.type_inv }) c.side.ensures
