@@ -1,7 +1,6 @@
 -- The loop inks the bits of the number, the highest first; its invariant is BitsLeft. Assumes nothing.
 use Prim.Native.Nat.{◌≤◌, ◌<◌}
 use borrow.Author.Rules.{rules}
-use borrow.Author.Tests.{not-true, not-false}
 use native.Mathlib.Nat.{mod-lt}
 use native.Mathlib.Omega.{arith}
 use lib.Pow.{pow_pos}

@@ -1,6 +1,5 @@
 -- Zeros by 32, then the rest with the one; the loop's invariant is BitsLeft. Assumes nothing.
 use borrow.Author.Rules.{rules}
-use borrow.Author.Tests.{not-true, not-false}
 use native.Mathlib.Omega.{arith}
 use mathlib.Core.Path.{sym}
 use Rattle.reading.specs.NumbersAsBits.{unary}
