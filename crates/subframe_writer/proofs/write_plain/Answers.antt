@@ -25,7 +25,7 @@ loop-i-preserved c =
     let w = c in let x = w.before.before.before in let l = x.before.before in
     let s = l.before.before.before.before in let a = s.args in
     step l.loop.invariant (pos 0) (rw length-take (omega arith))
-    (to_z-of_z (record { sfits = x.stored-sample.type-inv }) ∙ x.stored-sample.ensures ∙ sym (get_or-take a.most (stored_by a.source a.samples.now) l.loop.i (pos 0) (omega arith)))
+    (to_z-of_z (record { sfits = x.stored-sample.type_inv }) ∙ x.stored-sample.ensures ∙ sym (get_or-take a.most (stored_by a.source a.samples.now) l.loop.i (pos 0) (omega arith)))
     (binary-bits_of a.width _)
     (w.write-bits.ensures ∙ ap (λ v. inked (bits_of a.width v) l.loop.p l.loop.out) (w.before.low-bits.ensures ∙ low_bits-low a.width _ s.requires))
 

@@ -18,7 +18,7 @@ loop-j-init c = begin _ _
 pub loop-j-preserved : goal.loop-j-preserved
 loop-j-preserved c =
     let w = c in let x = w.before in let l = x.before.before.before in
-    step l.loop.invariant (pos 0) (rw length-fixed_residuals (omega arith)) (to_z-of_z (record { sfits = x.fixed-residual.type-inv }) ∙ x.fixed-residual.ensures.0) (bits-rice _ _)
+    step l.loop.invariant (pos 0) (rw length-fixed_residuals (omega arith)) (to_z-of_z (record { sfits = x.fixed-residual.type_inv }) ∙ x.fixed-residual.ensures.0) (bits-rice _ _)
     w.write-rice.ensures
 
 pub returns : goal.returns
