@@ -21,7 +21,7 @@ pub loop-j-preserved : goal.loop-j-preserved
 loop-j-preserved c =
     let l = c in let s = l.before in
     turn s.args.taps.now s.args.before.now l.loop.invariant s.requires _ (omega arith) (record { sfits = search rules }) _ refl
-    (record { sfits = search rules }) _ c.mul_add-sum.ensures (record { sfits = c.mul_add-sum.type-inv })
+    (record { sfits = search rules }) _ c.mul_add-sum.ensures (record { sfits = c.mul_add-sum.type_inv })
 
 pub returns : goal.returns
 returns c = let few = c.requires.1.0 in (end c.loop-j.invariant few (omega arith), room c.loop-j.invariant few)

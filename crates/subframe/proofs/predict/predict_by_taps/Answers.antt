@@ -30,7 +30,7 @@ dot-sum-requires c =
     )
 
 sum_fits : (c : goal.After-dot-sum) → SFits w64 c.dot-sum.result
-sum_fits c = record { sfits = c.dot-sum.type-inv }
+sum_fits c = record { sfits = c.dot-sum.type_inv }
 
 pub restore-requires : goal.restore-requires
 restore-requires c = rw (to_z-of_z (sum_fits c)) c.dot-sum.ensures.1
@@ -39,7 +39,7 @@ pub loop-i-preserved : goal.loop-i-preserved
 loop-i-preserved c =
     let d = c in let l = d.before.before.before.before in
     turn l.loop.invariant (as_many l.before) _ _ (omega arith) d.dot.ensures.0 c.restore.ensures (sum_fits d) (record { sfits = search rules })
-    (record { sfits = c.restore.type-inv })
+    (record { sfits = c.restore.type_inv })
 
 pub returns : goal.returns
 returns c = end c.loop-i.invariant (omega arith) ∙ resumed-predict _ _ _ _ (as_many c)

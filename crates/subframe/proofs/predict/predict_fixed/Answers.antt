@@ -25,7 +25,7 @@ fixed_sum-sum-requires c =
     (s.requires.0, s.requires.1, omega (arith, mid_len (l.loop.i - s.args.order) l.loop.i l.loop.out l.loop.invariant.within, l.loop.invariant.least))
 
 sum_fits : (c : goal.After-fixed_sum-sum) → SFits w64 c.fixed_sum-sum.result
-sum_fits c = record { sfits = c.fixed_sum-sum.type-inv }
+sum_fits c = record { sfits = c.fixed_sum-sum.type_inv }
 
 pub restore-requires : goal.restore-requires
 restore-requires c = rw (to_z-of_z (sum_fits c)) c.fixed_sum-sum.ensures.1
@@ -34,7 +34,7 @@ pub loop-i-preserved : goal.loop-i-preserved
 loop-i-preserved c =
     let d = c in let l = d.before.before.before.before in
     turn l.loop.invariant (as_many l.before) _ _ (omega arith) d.fixed-sum.ensures.0 c.restore.ensures (sum_fits d) (record { sfits = search rules })
-    (record { sfits = c.restore.type-inv })
+    (record { sfits = c.restore.type_inv })
 
 pub returns : goal.returns
 returns c = end c.loop-i.invariant (omega arith) ∙ resumed-predict _ _ _ _ (as_many c)

@@ -20,7 +20,7 @@ module _ (c : goal.After-shift_down) where
   s = c
 
   down : to_z w64 (of_z w64 c.shift_down.result) ≡ shift_down s.args.shift s.args.sum
-  down = to_z-of_z (record { sfits = c.shift_down.type-inv }) ∙ c.shift_down.ensures ∙ ap (shift_down s.args.shift) (to_z-of_z s.fits.sum)
+  down = to_z-of_z (record { sfits = c.shift_down.type_inv }) ∙ c.shift_down.ensures ∙ ap (shift_down s.args.shift) (to_z-of_z s.fits.sum)
 
 pub overflow_add-shift_down : goal.overflow_add-shift_down
 overflow_add-shift_down c =
@@ -29,5 +29,5 @@ overflow_add-shift_down c =
 
 pub returns : goal.returns
 returns c =
-    to_z-of_z (record { sfits = c.low32.type-inv }) ∙ c.low32.ensures
+    to_z-of_z (record { sfits = c.low32.type_inv }) ∙ c.low32.ensures
     ∙ ap (wrapped 32) (to_z-of_z (add-low32 c) ∙ ap₂ (λ (a b : ℤ). a +ℤ b) (down c) (widened (s c).fits.residual))

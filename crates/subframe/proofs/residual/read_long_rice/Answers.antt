@@ -25,4 +25,4 @@ pub returns : goal.returns
 returns c =
     let b = c in
     rice-got _ _ _ (omega arith) b.before.before.before.before.read-unary.ensures b.before.before.high.given.1 b.read_bits_lem.ensures
-    c.low-1.given.1 c.folded.ensures c.«unfold».ensures (record { sfits = c.«unfold».type-inv })
+    c.low-1.given.1 c.folded.ensures c.«unfold».ensures (record { sfits = c.«unfold».type_inv })

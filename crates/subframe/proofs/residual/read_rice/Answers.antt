@@ -17,6 +17,6 @@ code_at_top-requires c = (omega arith, omega arith, omega arith, first_one 64 _ 
 pub returns : goal.returns
 returns c =
     let w = c in (
-      rice_in_word _ _ _ _ w.word-from.ensures refl c.if-w-eq0.false refl refl (omega arith) _ c.code_at_top.ensures (record { sfits = c.code_at_top.type-inv }) (omega arith),
+      rice_in_word _ _ _ _ w.word-from.ensures refl c.if-w-eq0.false refl refl (omega arith) _ c.code_at_top.ensures (record { sfits = c.code_at_top.type_inv }) (omega arith),
       omega arith,
     )

@@ -11,4 +11,4 @@ pub returns : goal.returns
 returns c =
     let extended = c.sign_extend in
     sample-got _ _ _ (omega arith) c.read_bits_lem.ensures c.read-1.given.1
-    extended.ensures (record { sfits = extended.type-inv }) c.low32.ensures (record { sfits = c.low32.type-inv })
+    extended.ensures (record { sfits = extended.type_inv }) c.low32.ensures (record { sfits = c.low32.type_inv })
