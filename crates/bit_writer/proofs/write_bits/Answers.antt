@@ -1,14 +1,13 @@
 -- The loop inks the bits of the number, the highest first; its invariant is BitsLeft. Assumes nothing.
-use Prim.Native.Nat.{ℕ, ◌-◌, min, ◌≤◌, ◌<◌}
+use Prim.Native.Nat.{ℕ, ◌-◌, min, ◌<◌}
 use borrow.Author.Rules.{rules}
 use native.Mathlib.Nat.{mod-lt}
 use native.Mathlib.Omega.{arith}
 use lib.Pow.{pow_pos}
 use mathlib.Core.Path.{◌≡◌, sym}
-use Rattle.reading.specs.NumbersAsBits.{bits_of}
 use Rattle.reading.proofs.Bits.{one_shifted}
 use Rattle.bit_writer.proofs.InkedBits.{inked-none}
-use Rattle.bit_writer.proofs.BitLoops.{BitsLeft, begin, output-full, step-bits, end-bits}
+use Rattle.bit_writer.proofs.BitLoops.{begin, output-full, step-bits, end-bits}
 use Rattle.bit_writer.proofs.write_bits.Goals as goal
 
 pub returns-then-not-is_pen : goal.returns-then-not-is_pen
@@ -40,10 +39,10 @@ put-p-requires c =
 
 pub loop-left-preserved : goal.loop-left-preserved
 loop-left-preserved c = (
-      omega (arith, c.loop-left.invariant.0),
-      step-bits _ _ _ _ _ _ _ c.loop-left.invariant.1 _ (omega (arith, c.lesser-m.ensures))
-          (rw (one_shifted _ (few_bits _ _ _ c.lesser-m.ensures), c.shift_right.ensures)) c.put-p.ensures,
-    )
+  omega (arith, c.loop-left.invariant.0),
+  step-bits _ _ _ _ _ _ _ c.loop-left.invariant.1 _ (omega (arith, c.lesser-m.ensures))
+      (rw (one_shifted _ (few_bits _ _ _ c.lesser-m.ensures), c.shift_right.ensures)) c.put-p.ensures,
+)
 
 pub returns : goal.returns
 returns c = end-bits _ _ _ _ _ _ _ c.loop-left.invariant.1 c.loop-left-test.false

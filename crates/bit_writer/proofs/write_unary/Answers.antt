@@ -1,10 +1,8 @@
 -- Zeros by 32, then the rest with the one; the loop's invariant is BitsLeft. Assumes nothing.
-use borrow.Author.Rules.{rules}
 use native.Mathlib.Omega.{arith}
 use mathlib.Core.Path.{sym}
-use Rattle.reading.specs.NumbersAsBits.{unary}
 use Rattle.bit_writer.proofs.InkedBits.{inked-none}
-use Rattle.bit_writer.proofs.BitLoops.{BitsLeft, begin, output-full, step-zeros, end-zeros}
+use Rattle.bit_writer.proofs.BitLoops.{begin, output-full, step-zeros, end-zeros}
 use Rattle.bit_writer.proofs.write_unary.Goals as goal
 
 pub returns-then-not-is_pen : goal.returns-then-not-is_pen
