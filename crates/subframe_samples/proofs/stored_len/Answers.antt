@@ -1,6 +1,5 @@
 -- `stored_len` meets its contract, lane by lane. Assumes nothing.
 use mathlib.Core.Path.{sym, ◌∙◌}
-use borrow.Author.Rules.{rules}
 use Rattle.subframe_samples.proofs.StoredSamples.{length-channel, length_both, stored-channel, stored-mid, stored-side}
 use Rattle.subframe_samples.proofs.stored_len.Goals as goal
 

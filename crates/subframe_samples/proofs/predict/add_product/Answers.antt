@@ -1,5 +1,4 @@
 -- `add_product` meets its contract: one product more is exact at 64 bits. Assumes nothing.
-use borrow.Author.Rules.{rules}
 use Rattle.subframe_samples.proofs.Predictions.{coefficient-product-fits, product-sum_fits, product-sum_is}
 use Rattle.subframe_samples.proofs.predict.add_product.Goals as goal
 

@@ -1,6 +1,5 @@
 -- `predict_order_1` meets its contract: one product, exact. Assumes nothing.
 use native.Mathlib.Omega.{arith}
-use borrow.Author.Rules.{rules}
 use Rattle.rfc9639.specs.Prediction.{fixed_coefficients}
 use Rattle.subframe_samples.specs.Sources.{stored_by}
 use Rattle.subframe_samples.proofs.Predictions.{begin, step, end}

@@ -3,9 +3,7 @@ use Prim.Native.Nat.{ℕ}
 use native.Mathlib.Omega.{arith}
 use mathlib.Core.Path.{◌≡◌, ap, sym, ◌∙◌}
 use mathlib.Core.List.{List}
-use borrow.Author.Rules.{rules}
 use lib.IntN.{ℤ}
-use Rattle.subframe_samples.specs.Sources.{stored_by}
 use Rattle.subframe_samples.specs.Private.{predicted_at}
 use Rattle.subframe_samples.proofs.Predictions.{predicted-none, predicted_above, same-coefficients}
 use Rattle.subframe_samples.proofs.predict.predicted_at.Goals as goal

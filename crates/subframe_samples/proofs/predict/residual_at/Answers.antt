@@ -1,5 +1,4 @@
 -- `residual_at` meets its contract: the difference is exact at 64 bits. Assumes nothing.
-use borrow.Author.Rules.{rules}
 use Rattle.subframe_samples.proofs.Predictions.{residual-fits, residual_is}
 use Rattle.subframe_samples.proofs.predict.residual_at.Goals as goal
 

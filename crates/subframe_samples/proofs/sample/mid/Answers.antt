@@ -1,6 +1,5 @@
 -- `mid` meets its contract: the sum is exact at 64 bits. Assumes nothing.
 use mathlib.Core.Path.{ap, ◌∙◌}
-use borrow.Author.Rules.{rules}
 use mir.Syntax.{w64}
 use mir.Facts.{to_z-of_z}
 use Rattle.rfc9639.specs.Integers.{shift_down}

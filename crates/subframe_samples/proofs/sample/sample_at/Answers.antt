@@ -1,9 +1,9 @@
 -- `sample_at` meets its contract, lane by lane: what it reads lies within the lent samples. Assumes nothing.
-use Prim.Native.Nat.{◌+◌, ◌*◌, ◌<◌}
+use Prim.Native.Nat.{◌+◌, ◌*◌}
 use native.Mathlib.Omega.{arith}
 use borrow.Author.Rules.{rules}
 use lib.IntN.{pos}
-use lib.ListN.{length, get_or}
+use lib.ListN.{get_or}
 use mir.Syntax.{w32}
 use mir.Val.{SFits}
 use Rattle.rfc9639.proofs.MachineIntegers.{widen_fits}
