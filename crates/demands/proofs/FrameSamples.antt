@@ -10,7 +10,7 @@ use lib.Dec.{leb, ltb, eqb}
 use lib.IntN.{ℤ, ◌+ℤ◌, ◌-ℤ◌}
 use lib.ListN.{length, take, drop, replicate, length-append, length-map, length-replicate, length-take, length-drop}
 use lib.Pow.{suc_ones}
-use Rattle.reading.specs.Readers.{Ask, bits, many}
+use Rattle.reading.specs.Readers.{Ask, many}
 use Rattle.reading.proofs.Postconditions.{Holds, value, refusal, holds_bind, holds_weaken, holds_refused, holds_bits, holds_zeros, holds_passed, holds_require, holds_if, Every, every_append, every_take, every_drop, Sized, total, holds_many, holds_each}
 use Rattle.rfc9639.specs.declared.ChannelAssignment.{ChannelAssignment}
 use Rattle.rfc9639.specs.declared.ChannelAssignment.TheVariants.{Independent, LeftSide, SideRight, MidSide}
@@ -21,7 +21,7 @@ use Rattle.rfc9639.specs.Integers.{shift_up, signed_bits}
 use Rattle.rfc9639.specs.HeaderCodes.{channel_count}
 use Rattle.rfc9639.specs.Header.{sample_count}
 use Rattle.rfc9639.specs.Residual.{rice, escaped, coded_residuals, partition, partition_sizes, residual}
-use Rattle.rfc9639.specs.Prediction.{restored, predict}
+use Rattle.rfc9639.specs.Prediction.{predicted, restored, predict}
 use Rattle.rfc9639.specs.Subframe.{subframe_type, wasted_bits, checked_wasted_bits, kind_and_wasted, subframe_header, order_of, fixed, quantization, lpc_after_shift, lpc, samples_by_type, subframe_after_header, subframe}
 use Rattle.rfc9639.specs.Stereo.{right_of, left_of, doubled, left_of_mid, right_of_mid, pairwise, left_and_right}
 use Rattle.rfc9639.specs.Stream.{possible, completed, bits_read, bits_fit, block_fits}
@@ -101,7 +101,7 @@ residual_holds warm n =
 restored-length : (cs : List ℤ) (k : ℕ) (before rs : List ℤ) → length (restored cs k before rs) ≡ length rs
 unfolding restored
 restored-length cs k before [] = refl
-restored-length cs k before (r ∷ rs) = ap suc (restored-length cs k _ rs)
+restored-length cs k before (r ∷ rs) = ap suc (restored-length cs k (predicted cs k before r ∷ before) rs)
 
 predict-length : (cs : List ℤ) (k order n : ℕ) (warm rs : List ℤ) → length warm ≡ order → length rs ≡ n - order → order ≤ n → length (predict cs k warm rs) ≡ n
 unfolding predict

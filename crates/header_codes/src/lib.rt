@@ -39,6 +39,7 @@ pub fn block_size(code: u64) -> BlockSize
 }
 
 // The code of a block size (RFC 9639 section 9.1.1): 6 or 7 where the size itself is stored after the coded number.
+#[tactic(auto, unfolding(rfc9639::specs::HeaderCodes::size_code))]
 pub fn size_code(n: usize) -> u64
     ensures { result ≡ size_code n }
 {
@@ -83,6 +84,7 @@ pub fn rate_bits(code: u64) -> u32
 
 // The sample rate by its code and by what is stored after the coded number (RFC 9639 sections 9.1.2 and 9.1.7), in 16
 // bits at most; any above them are ignored.
+#[tactic(auto, unfolding(rfc9639::specs::HeaderCodes::sample_rate))]
 pub fn sample_rate(code: u64, stored: u64) -> SampleRate
     ensures { result ≡ sample_rate code (stored % 65536) }
 {
@@ -122,6 +124,7 @@ pub fn channel_assignment(code: u64) -> ChannelAssignment
     ChannelAssignment::MidSide
 }
 
+#[tactic(auto, unfolding(rfc9639::specs::HeaderCodes::channel_count))]
 pub fn channel_count(c: ChannelAssignment) -> usize
     ensures { result ≡ channel_count c }
 {
@@ -169,6 +172,7 @@ pub fn bit_depth(code: u64) -> Depth
 }
 
 // RFC 9639 section 9.1.4. Callers refuse any number of bits without a code before.
+#[tactic(auto, unfolding(rfc9639::specs::HeaderCodes::bits_code))]
 pub fn bits_code(b: u32) -> u64
     ensures { result ≡ bits_code b }
 {

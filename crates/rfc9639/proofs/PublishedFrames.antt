@@ -6,7 +6,7 @@ use lib.IntN.{pos}
 use lib.ListN.{replicate}
 use Rattle.rfc9639.specs.declared.FirstSample.{FirstSample}
 use Rattle.rfc9639.specs.declared.SampleRate.{SampleRate}
-use Rattle.rfc9639.specs.Read.{refusal, read}
+use Rattle.rfc9639.specs.Read.{read}
 use Rattle.rfc9639.proofs.Evaluation.{hex, minus, blocks_of, computed}
 
 pub record Published : Type 0 where

@@ -2,7 +2,7 @@
 -- document 01's number; crate `error` names the causes.
 use Rattle.std.specs.Prelude.{ℕ, List, [], ◌∷◌, ◌++◌, ℤ, pos, length, replicate, drop}
 use Rattle.reading.specs.declared.Place.{Place}
-use Rattle.reading.specs.Readers.{Ask, done, ◌>>=◌, ◌>>◌, bits}
+use Rattle.reading.specs.Readers.{Ask, done, ◌>>=◌, bits}
 use Rattle.reading.specs.Places.{At, got_at, refused_at, short_at, run_at, place_of}
 use Rattle.rfc9639.specs.declared.FirstSample.{FirstSample}
 use Rattle.rfc9639.specs.declared.FrameHeader.{FrameHeader}

@@ -1,6 +1,5 @@
 -- Whether it is a pen, by the two tests of the definition. Assumes nothing.
 use Prim.Native.Nat.{ℕ, ◌/◌, ◌^◌, ◌≤◌, ◌<◌}
-use borrow.Author.Rules.{rules}
 use native.Mathlib.Nat.{div-lt_iff_lt-mul, le-div_iff_mul-le, one-mul}
 use native.Mathlib.Omega.{arith}
 use mathlib.Core.Path.{sym}

@@ -1,5 +1,4 @@
 -- Adding m bits to the byte being filled is inking them. Assumes nothing.
-use borrow.Author.Rules.{rules}
 use native.Mathlib.Omega.{arith}
 use Rattle.bit_writer.proofs.BitLoops.{appended-below, put-few, put_byte}
 use Rattle.bit_writer.proofs.put.Goals as goal

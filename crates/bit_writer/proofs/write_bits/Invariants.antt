@@ -1,15 +1,7 @@
 -- The loop inks the bits of the number, the highest first; its invariant is BitsLeft. Assumes nothing.
-use Prim.Native.Nat.{◌≤◌, ◌<◌}
-use borrow.Author.Rules.{rules}
-use borrow.Author.Tests.{not-true, not-false}
-use native.Mathlib.Nat.{mod-lt}
-use native.Mathlib.Omega.{arith}
-use lib.Pow.{pow_pos}
-use mathlib.Core.Path.{sym}
+use Prim.Native.Nat.{◌≤◌}
 use Rattle.reading.specs.NumbersAsBits.{bits_of}
-use Rattle.reading.proofs.Bits.{one_shifted}
-use Rattle.bit_writer.proofs.InkedBits.{inked-none}
-use Rattle.bit_writer.proofs.BitLoops.{BitsLeft, begin, output-full, step-bits, end-bits}
+use Rattle.bit_writer.proofs.BitLoops.{BitsLeft}
 use Rattle.bit_writer.proofs.write_bits.Given as goal
 
 abbrev pub invariant-loop-left : goal.invariant-loop-left

@@ -1,11 +1,6 @@
 -- Zeros by 32, then the rest with the one; the loop's invariant is BitsLeft. Assumes nothing.
-use borrow.Author.Rules.{rules}
-use borrow.Author.Tests.{not-true, not-false}
-use native.Mathlib.Omega.{arith}
-use mathlib.Core.Path.{sym}
 use Rattle.reading.specs.NumbersAsBits.{unary}
-use Rattle.bit_writer.proofs.InkedBits.{inked-none}
-use Rattle.bit_writer.proofs.BitLoops.{BitsLeft, begin, output-full, step-zeros, end-zeros}
+use Rattle.bit_writer.proofs.BitLoops.{BitsLeft}
 use Rattle.bit_writer.proofs.write_unary.Given as goal
 
 abbrev pub invariant-loop-left : goal.invariant-loop-left

@@ -1,13 +1,9 @@
 -- `fill` meets its contract: the samples before `i` are x (Filled). Assumes nothing.
-use Prim.Native.Nat.{◌-◌}
 use native.Mathlib.Omega.{arith}
 use mathlib.Core.Path.{refl, ap, ◌∙◌}
-use borrow.Author.Rules.{rules}
 use lib.ListN.{length, replicate}
-use mir.Syntax.{w32}
-use mir.Val.{to_z}
 use mir.Facts.{to_z-of_z}
-use Rattle.block.proofs.FilledSamples.{Filled, begin, step, end}
+use Rattle.block.proofs.FilledSamples.{begin, step, end}
 use Rattle.block.proofs.fill.Goals as goal
 
 pub loop-i-init : goal.loop-i-init

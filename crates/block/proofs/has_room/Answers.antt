@@ -1,6 +1,5 @@
 -- `has_room` meets its contract. Assumes nothing.
 use native.Mathlib.Omega.{arith}
-use borrow.Author.Rules.{rules}
 use Rattle.block.proofs.BlockAccess.{room-size-zero, room_by_division}
 use Rattle.block.proofs.has_room.Goals as goal
 

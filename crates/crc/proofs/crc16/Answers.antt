@@ -1,5 +1,4 @@
 -- `crc::crc16` meets its contract: the tables' entries are checked by computation. Assumes nothing.
-use borrow.Author.Rules.{rules}
 use mathlib.Core.Path.{refl}
 use Rattle.rfc9639.specs.CheckSums.{crc_bit, crc_bits}
 use Rattle.reading.specs.Bytes.{bits_of_byte}

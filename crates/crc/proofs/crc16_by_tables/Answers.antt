@@ -1,21 +1,18 @@
 -- `crc::crc16_by_tables` meets its contract. In the first loop `ahead` is the sum of the last six of the next eight
 -- bytes, where there are eight more. Assumes nothing.
-use Prim.Native.Nat.{◌+◌, ◌-◌, ◌≤◌}
+use Prim.Native.Nat.{◌+◌}
 use native.Mathlib.Omega.{arith}
-use borrow.Author.Rules.{rules}
-use mathlib.Core.Logic.{⊎_elim}
 use mathlib.Core.Path.{◌≡◌, sym, ◌∙◌}
-use lib.ListN.{length, take, drop}
-use Rattle.rfc9639.specs.CheckSums.{crc_bits, crc16}
-use Rattle.reading.specs.Bytes.{bits_of_bytes}
-use Rattle.crc.proofs.SummedBytes.{Summed, begin, step, steps, end}
+use Rattle.rfc9639.specs.CheckSums.{crc16}
+use Rattle.crc.proofs.SummedBytes.{begin, step, steps, end}
 use Rattle.crc.proofs.crc16_by_tables.Goals as goal
+use Rattle.crc.proofs.crc16_by_tables.Goals.{then-s-ge8, else-s-ge8}
 
 pub loop-i-init : goal.loop-i-init
-loop-i-init c = (begin _ _ _, λ h. ⊎_elim (λ w. w.2 ∙ w.1.ensures) (λ w. absurd (omega arith)) c.if-s-ge8.branch)
+loop-i-init c = (begin _ _ _, λ h. elim c.if-s-ge8.branch [ then-s-ge8 w ↦ w.ahead-is ∙ w.crc16_six-ahead.ensures | else-s-ge8 w ↦ absurd (omega arith) ])
 
-pub crc16_eight-sum-requires : goal.crc16_eight-sum-requires
-crc16_eight-sum-requires c = (search rules, c.loop-i.invariant.1 (omega arith))
+pub crc16_eight-sum-requires-clause-ahead_value : goal.crc16_eight-sum-requires-clause-ahead_value
+crc16_eight-sum-requires-clause-ahead_value c = c.loop-i.invariant.1 (omega arith)
 
 pub loop-i-preserved : goal.loop-i-preserved
 loop-i-preserved c =

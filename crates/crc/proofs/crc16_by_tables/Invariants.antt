@@ -1,14 +1,11 @@
 -- `crc::crc16_by_tables` meets its contract. In the first loop `ahead` is the sum of the last six of the next eight
 -- bytes, where there are eight more. Assumes nothing.
 use Prim.Native.Nat.{◌+◌, ◌-◌, ◌≤◌}
-use native.Mathlib.Omega.{arith}
-use borrow.Author.Rules.{rules}
-use mathlib.Core.Logic.{⊎_elim}
-use mathlib.Core.Path.{◌≡◌, sym, ◌∙◌}
+use mathlib.Core.Path.{◌≡◌}
 use lib.ListN.{length, take, drop}
-use Rattle.rfc9639.specs.CheckSums.{crc_bits, crc16}
+use Rattle.rfc9639.specs.CheckSums.{crc_bits}
 use Rattle.reading.specs.Bytes.{bits_of_bytes}
-use Rattle.crc.proofs.SummedBytes.{Summed, begin, step, steps, end}
+use Rattle.crc.proofs.SummedBytes.{Summed}
 use Rattle.crc.proofs.crc16_by_tables.Given as goal
 
 abbrev pub invariant-loop-i : goal.invariant-loop-i

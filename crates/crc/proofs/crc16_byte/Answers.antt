@@ -10,10 +10,10 @@ pub bounds-tables-place : goal.bounds-tables-place
 bounds-tables-place c = let h = xor_lt 8 (c.args.sum / 256) c.args.byte (omega arith) (omega arith) in omega arith
 
 pub overflow_cast-result : goal.overflow_cast-result
-overflow_cast-result c = let h = element-copy-out-result c in omega arith
+overflow_cast-result c = let h = xor_lt 8 (c.args.sum / 256) c.args.byte (omega arith) (omega arith) in omega arith
 
 pub offset_bounds-tables-place : goal.offset_bounds-tables-place
-offset_bounds-tables-place c = let h = element-copy-out-result c in omega arith
+offset_bounds-tables-place c = let h = xor_lt 8 (c.args.sum / 256) c.args.byte (omega arith) (omega arith) in omega arith
 
 pub returns : goal.returns
 returns c = look_up-first 16 0x8005 (lit< tt) (omega arith) _ c.requires c.args.sum c.args.byte (omega arith) (omega arith)

@@ -1,9 +1,8 @@
 -- `crc::crc16_six` meets its contract: its loop makes one look-up for each byte. Assumes nothing.
 use Prim.Native.Nat.{◌-◌}
 use native.Mathlib.Omega.{arith}
-use borrow.Author.Rules.{rules}
 use lib.Dec.{lit<}
-use Rattle.crc.proofs.BytesApart.{Looked, none_looked, one_looked, all_looked}
+use Rattle.crc.proofs.BytesApart.{none_looked, one_looked, all_looked}
 use Rattle.crc.proofs.crc16_six.Goals as goal
 
 pub loop-k-init : goal.loop-k-init

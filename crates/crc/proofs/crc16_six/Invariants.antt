@@ -1,9 +1,6 @@
 -- `crc::crc16_six` meets its contract: its loop makes one look-up for each byte. Assumes nothing.
 use Prim.Native.Nat.{◌-◌}
-use native.Mathlib.Omega.{arith}
-use borrow.Author.Rules.{rules}
-use lib.Dec.{lit<}
-use Rattle.crc.proofs.BytesApart.{Looked, none_looked, one_looked, all_looked}
+use Rattle.crc.proofs.BytesApart.{Looked}
 use Rattle.crc.proofs.crc16_six.Given as goal
 
 abbrev pub invariant-loop-k : goal.invariant-loop-k

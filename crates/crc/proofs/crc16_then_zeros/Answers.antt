@@ -1,6 +1,5 @@
 -- `crc::crc16_then_zeros` meets its contract: the table of that many zero bytes has the sum. Assumes nothing.
 use native.Mathlib.Omega.{arith}
-use borrow.Author.Rules.{rules}
 use lib.Dec.{lit<}
 use Rattle.crc.proofs.ByteTable.{look_up-zeros}
 use Rattle.crc.proofs.crc16_then_zeros.Goals as goal

@@ -1,13 +1,10 @@
 -- `crc::crc8` meets its contract: the table's 256 entries are checked by computation. Assumes nothing.
-use Prim.Native.Nat.{◌-◌}
 use native.Mathlib.Omega.{arith}
-use borrow.Author.Rules.{rules}
 use mathlib.Core.Path.{refl}
-use lib.ListN.{length}
 use Rattle.rfc9639.specs.CheckSums.{crc_bit, crc_bits, crc8}
 use Rattle.reading.specs.Bytes.{bits_of_byte}
 use Rattle.crc.specs.Private.{sums_from, byte_sums}
-use Rattle.crc.proofs.SummedBytes.{Summed, begin, step, end}
+use Rattle.crc.proofs.SummedBytes.{begin, step, end}
 use Rattle.crc.proofs.crc8.Goals as goal
 
 pub loop-i-init : goal.loop-i-init

@@ -9,7 +9,7 @@ pub bounds-table-sum : goal.bounds-table-sum
 bounds-table-sum c = xor_lt 8 c.args.sum c.args.byte (omega arith) (omega arith)
 
 pub overflow_cast-result : goal.overflow_cast-result
-overflow_cast-result c = let h = element-copy-out-result c in omega arith
+overflow_cast-result c = let h = xor_lt 8 c.args.sum c.args.byte (omega arith) (omega arith) in omega arith
 
 pub returns : goal.returns
 returns c = look_up_8 0x07 _ c.requires c.args.sum c.args.byte (lit< tt) (omega arith) (omega arith)

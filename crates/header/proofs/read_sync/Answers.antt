@@ -1,9 +1,8 @@
 -- The sync bits and the blocking bit, as the definition reads them. Assumes nothing.
 use borrow.Author.Rules.{rules}
 use borrow.Author.Tests.{eq-eqb, ne_eqb}
-use mathlib.Core.Path.{◌≡◌, sym}
+use mathlib.Core.Path.{sym}
 use Rattle.reading.specs.Readers.{bits}
-use Rattle.reading.specs.Places.{got_at, run_at}
 use Rattle.reading.proofs.ByteRuns.{bind_short}
 use Rattle.input.proofs.Callers.{read-got, read_short}
 use Rattle.rfc9639.specs.Header.{sync}
@@ -12,16 +11,12 @@ use Rattle.header.proofs.read_sync.Goals as goal
 
 pub returns-in_default : goal.returns-in_default
 unfolding sync
-returns-in_default c = sym (bind_short (bits 16) _ _ _ (read_short 16 _ _ (search rules) c.read_bits_lem.ensures c.enum_told-1.given.1))
-
--- the two bytes that were read
-read_is : (c : goal.In-Value-2) → run_at (bits 16) c.args.s.now c.args.at ≡ got_at c.read-1.given.0.0 c.read-1.given.0.1.0
-read_is c = read-got 16 _ _ (search rules) c.read_bits_lem.ensures c.read-1.given.1
+returns-in_default c = sym (bind_short (bits 16) _ _ _ (read_short 16 _ _ (search rules) c.read_bits-read.ensures c.in_default.is))
 
 pub returns-then-v-ne-SYNC_CODE : goal.returns-then-v-ne-SYNC_CODE
 unfolding sync
-returns-then-v-ne-SYNC_CODE c = sym (check_fails (bits 16) _ _ _ 3 (read_is c) _ (ne_eqb _ _ c.if-v-ne-SYNC_CODE.true))
+returns-then-v-ne-SYNC_CODE c = sym (check_fails (bits 16) _ _ _ 3 (read-got 16 _ _ (search rules) c.read_bits-read.ensures c.in-Value.is) _ (ne_eqb _ _ c.if-v-ne-SYNC_CODE.true))
 
 pub returns : goal.returns
 unfolding sync
-returns c = sym (check_done (bits 16) _ _ _ 3 (read_is c) _ (eq-eqb _ _ c.if-v-ne-SYNC_CODE.false))
+returns c = sym (check_done (bits 16) _ _ _ 3 (read-got 16 _ _ (search rules) c.read_bits-read.ensures c.in-Value.is) _ (eq-eqb _ _ c.if-v-ne-SYNC_CODE.false))

@@ -1,5 +1,4 @@
 -- The size of a block by its code, test by test as in the definition. Assumes nothing.
-use borrow.Author.Rules.{rules}
 use borrow.Author.Tests.{ne_eqb, le-leb, lt-leb}
 use Prim.Native.Nat.{◌%◌}
 use native.Mathlib.Nat.{mod-eq_of_lt}

@@ -1,5 +1,4 @@
 -- The channels by their code, test by test as in the definition. Assumes nothing.
-use borrow.Author.Rules.{rules}
 use borrow.Author.Tests.{lt-ltb, le-ltb, ne_eqb}
 use Rattle.rfc9639.specs.HeaderCodes.{assignment}
 use Rattle.header_codes.proofs.channel_assignment.Goals as goal

@@ -1,5 +1,4 @@
 -- `chunk`: bits of a byte, by a shift to the right and a remainder by a power of two. Assumes nothing.
-use borrow.Author.Rules.{rules}
 use native.Mathlib.Omega.{arith}
 use lib.Pow.{pow_pos}
 use Rattle.reading.proofs.Bits.{one_shifted}

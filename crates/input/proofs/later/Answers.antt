@@ -1,5 +1,4 @@
 -- `later`: the place of the position m bits later. Assumes nothing.
-use borrow.Author.Rules.{rules}
 use native.Mathlib.Omega.{arith}
 use Rattle.reading.proofs.ByteRuns.{place_is}
 use Rattle.input.proofs.later.Goals as goal

@@ -1,5 +1,4 @@
 -- `more`: a count that passes 2 ^ 33 goes back by 2 ^ 32. Assumes nothing.
-use borrow.Author.Rules.{rules}
 use native.Mathlib.Omega.{arith}
 use Rattle.input.proofs.Callers.{count_stays, count-back}
 use Rattle.input.proofs.more.Goals as goal

@@ -1,7 +1,6 @@
 -- `read_bits`: up to 56 bits are a middle piece of the first word. Assumes nothing.
 use native.Mathlib.Omega.{arith}
 use mathlib.Core.Path.{sym}
-use borrow.Author.Rules.{rules}
 use Rattle.reading.proofs.ByteRuns.{outside_bit}
 use Rattle.reading.proofs.Words.{taken_word}
 use Rattle.input.specs.Answers.{low64}

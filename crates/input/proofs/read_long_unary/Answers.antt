@@ -1,11 +1,8 @@
 -- `read_long_unary`: the zeros that are still to be read complete the count (Passed). Assumes nothing.
-use Prim.Native.Nat.{◌-◌}
 use native.Mathlib.Omega.{arith}
 use mathlib.Core.Path.{refl, ◌∙◌}
-use borrow.Author.Rules.{rules}
-use lib.ListN.{length}
 use Rattle.reading.proofs.Words.{taken_word, byte_at}
-use Rattle.input.proofs.ReadLoops.{Passed, begin-zeros, step-zeros, out-zeros, end-zeros, below}
+use Rattle.input.proofs.ReadLoops.{begin-zeros, step-zeros, out-zeros, end-zeros, below}
 use Rattle.input.proofs.read_long_unary.Goals as goal
 
 pub loop-next-init : goal.loop-next-init

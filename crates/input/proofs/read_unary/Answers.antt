@@ -1,7 +1,6 @@
 -- `read_unary`: a run that ends in the first word is the leading zeros of its bits from the place on. Assumes nothing.
 use native.Mathlib.Omega.{arith}
 use mathlib.Core.Path.{refl, sym, ◌∙◌}
-use borrow.Author.Rules.{rules}
 use Rattle.reading.proofs.ByteRuns.{outside_bit}
 use Rattle.reading.proofs.Words.{taken_word}
 use Rattle.input.specs.Answers.{counted_zeros}

@@ -1,5 +1,4 @@
 -- `word_at`: each byte moves the bits before it up by eight. Assumes nothing.
-use borrow.Author.Rules.{rules}
 use native.Mathlib.Omega.{arith}
 use Rattle.reading.proofs.Words.{eight-bytes}
 use Rattle.input.proofs.word_at.Goals as goal

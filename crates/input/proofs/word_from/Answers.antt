@@ -1,6 +1,5 @@
 -- `word_from`: the word that eight bytes spell, where they are left. Assumes nothing.
 use native.Mathlib.Omega.{arith}
-use borrow.Author.Rules.{rules}
 use Rattle.input.proofs.Callers.{word-short, word-whole}
 use Rattle.input.proofs.word_from.Goals as goal
 

@@ -13,7 +13,7 @@ narrow : (z : ℤ) → SFits w32 (wrapped 32 z)
 narrow z = to_sfits (wrapped-fits 32 z)
 
 again : (z : ℤ) → to_z w64 (of_z w64 (wrapped 32 z)) ≡ wrapped 32 z
-again z = to_z-of_z (sfits_widen tt (narrow z))
+again z = to_z-of_z {w = w64} (sfits_widen {w = w32} {w' = w64} tt (narrow z))
 
 pub overflow_cast-result : goal.overflow_cast-result
 overflow_cast-result c = rw (up_and_down_32 c.ranges.x, again c.args.x) (narrow c.args.x)

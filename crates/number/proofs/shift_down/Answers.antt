@@ -1,7 +1,6 @@
 -- `shift_down` meets its contract: a shift past the width leaves the sign alone. Assumes nothing.
 use native.Mathlib.Omega.{arith}
 use mathlib.Core.Path.{◌∙◌}
-use borrow.Author.Rules.{rules}
 use Rattle.rfc9639.proofs.Widths.{of_sfits, shift_down_sign}
 use Rattle.rfc9639.proofs.MachineIntegers.{shifted}
 use Rattle.number.proofs.shift_down.Goals as goal

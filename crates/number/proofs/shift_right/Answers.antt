@@ -1,5 +1,4 @@
 -- `shift_right` meets its contract: a u64 is below 2 ^ k for k of 64 or more. Assumes nothing.
-use borrow.Author.Rules.{rules}
 use native.Mathlib.Nat.{div-eq_of_lt, lt_of_lt_of_le}
 use native.Mathlib.Omega.{arith}
 use mathlib.Core.Path.{sym}

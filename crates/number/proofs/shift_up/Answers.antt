@@ -1,6 +1,5 @@
 -- `shift_up` meets its contract. Assumes nothing.
 use mathlib.Core.Path.{sym, ap, ◌∙◌}
-use borrow.Author.Rules.{rules}
 use Prim.Native.Nat.{◌^◌}
 use mir.Syntax.{w32}
 use Rattle.rfc9639.specs.Integers.{signed, wrapped, shift_up}

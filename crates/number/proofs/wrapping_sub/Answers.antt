@@ -1,6 +1,6 @@
 -- `wrapping_sub` meets its contract: the difference is exact before it is cut to 32 bits. Assumes nothing.
 use mathlib.Core.Path.{ap, ◌∙◌}
-use borrow.Author.Rules.{rules}
+use mir.Syntax.{w32}
 use mir.Facts.{to_z-of_z}
 use Rattle.rfc9639.specs.Integers.{wrapped}
 use Rattle.rfc9639.proofs.MachineIntegers.{widen_fits}
@@ -18,4 +18,4 @@ overflow_sub-a c = difference_fits_64 c.ranges.a c.ranges.b
 
 pub returns : goal.returns
 returns c =
-    to_z-of_z (record { sfits = c.low32.type-inv }) ∙ c.low32.ensures ∙ ap (wrapped 32) (difference_exact c.ranges.a c.ranges.b)
+    to_z-of_z {w = w32} (record { sfits = c.low32.type_inv }) ∙ c.low32.ensures ∙ ap (wrapped 32) (difference_exact c.ranges.a c.ranges.b)

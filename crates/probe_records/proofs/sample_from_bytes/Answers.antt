@@ -18,6 +18,6 @@ again v = extend-low 32 v (omega arith)
 pub returns : goal.returns
 returns c =
     let n = c.number_from_bytes in
-    to_z-of_z (record { sfits = c.low32.type-inv }) ∙ c.low32.ensures
-    ∙ ap (wrapped 32) (to_z-of_z (record { sfits = c.sign_extend.type-inv }) ∙ c.sign_extend.ensures ∙ again n.result)
+    to_z-of_z (record { sfits = c.low32.type_inv }) ∙ c.low32.ensures
+    ∙ ap (wrapped 32) (to_z-of_z (record { sfits = c.sign_extend.type_inv }) ∙ c.sign_extend.ensures ∙ again n.result)
     ∙ wrapped-wrapped 32 (pos n.result) ∙ ap (λ v. wrapped 32 (pos v)) n.ensures

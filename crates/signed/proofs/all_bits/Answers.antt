@@ -1,5 +1,4 @@
 -- `all_bits` meets its contract, by the sign. Assumes nothing.
-use borrow.Author.Rules.{rules}
 use Rattle.signed.proofs.SignCases.{low-pos, low-negsuc}
 use Rattle.signed.proofs.all_bits.Goals as goal
 

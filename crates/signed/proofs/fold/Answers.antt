@@ -1,6 +1,5 @@
 -- `fold` meets its contract, by the sign: twice a magnitude of 63 bits fits. Assumes nothing.
 use native.Mathlib.Omega.{arith}
-use borrow.Author.Rules.{rules}
 use Rattle.signed.proofs.SignCases.{magnitude-below, fold-pos, fold-negsuc}
 use Rattle.signed.proofs.fold.Goals as goal
 

@@ -1,5 +1,4 @@
 -- `low_bits` meets its contract, by the width. Assumes nothing.
-use borrow.Author.Rules.{rules}
 use Rattle.signed.proofs.SignExtension.{low_bits-from_64, divisor_positive, low_bits-below_64}
 use Rattle.signed.proofs.low_bits.Goals as goal
 

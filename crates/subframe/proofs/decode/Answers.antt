@@ -8,11 +8,8 @@ use Rattle.subframe.proofs.decode.Goals as goal
 
 pub returns-in_default : goal.returns-in_default
 returns-in_default c =
-    let k = c in let d = k.before.before.before in
-    left-refused (length d.before.before.before.args.out.now) d.decode-subframe.new.1.1.1.0 d.decode-subframe.ensures
-    k.enum_told.given.1 (c.fill.ensures ∙ ap (λ n. replicate n (pos 0)) d.decode-subframe.auto.1.1.1.0)
+    let d = c.decode_subframe-decoded in
+    left-refused (length c.args.out.now) d.new.out d.ensures c.in_default.is (c.fill.ensures ∙ ap (λ n. replicate n (pos 0)) d.auto.out)
 
 pub returns : goal.returns
-returns c =
-    let k = c in let d = k.before.before.before in
-    left-done (length d.before.before.before.args.out.now) d.decode-subframe.new.1.1.1.0 d.decode-subframe.ensures k.decoded.given.1
+returns c = let d = c.decode_subframe-decoded in left-done (length c.args.out.now) d.new.out d.ensures c.in-Done.is

@@ -2,15 +2,17 @@
 use mathlib.Core.Path.{ap, ◌∙◌}
 use borrow.Author.Rules.{rules}
 use lib.ListN.{length, replicate}
+use mir.Syntax.{w32}
+use mir.Val.{SFits}
 use mir.Facts.{to_z-of_z}
 use Rattle.subframe.proofs.DecodedSubframes.{constant-short, constant-done}
 use Rattle.subframe.proofs.decode_constant.Goals as goal
 
 pub returns-in_default : goal.returns-in_default
-returns-in_default c = let r = c in let a = r.before.before.args in constant-short a.width (length a.out.now) a.s.now a.at r.read-sample.ensures c.enum_told-1.given.1
+returns-in_default c = constant-short c.args.width (length c.args.out.now) c.args.s.now c.args.at c.read_sample-read.ensures c.in_default.is
 
 pub returns : goal.returns
 returns c =
-    let k = c in let r = k.before.before in let a = r.before.before.args in
-    constant-done a.width (length a.out.now) a.s.now a.at r.read-sample.ensures k.read.given.1
-    (c.fill.ensures ∙ ap (replicate (length a.out.now)) (to_z-of_z (record { sfits = search rules })))
+    let f : SFits w32 c.in-Value.x = search rules in
+    constant-done c.args.width (length c.args.out.now) c.args.s.now c.args.at c.read_sample-read.ensures c.in-Value.is
+    (c.fill.ensures ∙ ap (replicate (length c.args.out.now)) (to_z-of_z f))

@@ -17,55 +17,36 @@ use Rattle.subframe.proofs.PredictionSums.{fixed-row}
 use Rattle.subframe.proofs.DecodedSubframes.{predictable, predicted_block_lem}
 use Rattle.subframe.proofs.decode_fixed.Goals as goal
 
+-- what follows the warm-up samples
+abbrev rest : ℕ → ℕ → List ℤ → Ask (List ℤ)
+rest order n w = residual order n >>= (λ r. done (predict (fixed_coefficients order) 0 w r))
+
 pub slice_bounds-decode_verbatim-end-2 : goal.slice_bounds-decode_verbatim-end-2
 slice_bounds-decode_verbatim-end-2 c = sym (length-take-le _ _ (omega arith))
-
--- after the warm-up samples
-module _ (c : goal.After-decode_verbatim-warm) where
-  abbrev start : goal.Start
-  start = c
-
-  abbrev order : ℕ
-  order = start.args.order
-
-  abbrev out : List ℤ
-  out = start.args.out.now
-
-  abbrev reader : ℕ → Ask (List ℤ)
-  reader k = many k (signed_bits start.args.width)
-
-  abbrev rest : List ℤ → Ask (List ℤ)
-  rest w = residual order (length out) >>= (λ r. done (predict (fixed_coefficients order) 0 w r))
-
-  abbrev warm : List ℤ
-  warm = c.decode_verbatim-warm.new.1.1.1.0
-
-  abbrev block : List ℤ
-  block = warm ++ drop order out
-
-  whole : length block ≡ length out
-  whole = front_replaced-length order out start.pre.2 warm c.decode_verbatim-warm.auto.1.1.1.0
 
 pub returns-in_default : goal.returns-in_default
 unfolding fixed
 returns-in_default c =
-    let v = c in let s = start v in
-    front-stops (reader v) s.args.s.now s.args.at (order v) (out v) s.pre.2 (warm v) v.decode-verbatim.ensures (rest v) c.enum_told-1.given.1 _
+    let a = c.args in let d = c.decode_verbatim-warm in
+    front-stops (λ k. many k (signed_bits a.width)) a.s.now a.at a.order a.out.now c.requires.2 d.new.out d.ensures (rest a.order (length a.out.now))
+    c.in_default.is _
 
 pub slice_bounds-decode_predicted-end : goal.slice_bounds-decode_predicted-end
 slice_bounds-decode_predicted-end c = sym (length-take-le _ _ (omega arith))
 
 pub decode_predicted-requires : goal.decode_predicted-requires
 decode_predicted-requires c =
-    let f = c in let v = f.before.before.before.before.before in let s = start v in
-    predictable (block v) f.fixed-coefficients.ensures (fixed-row (order v) s.pre.1) (omega (arith, s.pre.1)) (omega (arith, whole v, s.pre.2))
+    let a = c.args in let d = c.decode_verbatim-warm in
+    predictable (d.new.out ++ drop a.order a.out.now) c.fixed_coefficients-coefficients.ensures (fixed-row a.order c.requires.1) (omega (arith, c.requires.1))
+    (omega (arith, front_replaced-length a.order a.out.now c.requires.2 d.new.out d.auto.out, c.requires.2))
 
 pub returns : goal.returns
 unfolding fixed
 returns c =
-    let f = c in let k = f.before.before in let v = k.before.before.before in let s = start v in
+    let a = c.args in let d = c.decode_verbatim-warm in
     c.decode_predicted.ensures
-    ∙ predicted_block_lem (block v) f.fixed-coefficients.ensures (fixed-row (order v) s.pre.1) 0 (length (out v)) (warm v)
-    (first_taken (order v) (out v) s.pre.2 (warm v) v.decode-verbatim.auto.1.1.1.0 (drop (order v) (out v)))
-    (whole v) s.args.s.now k.warm.given.0.0
-    ∙ front_then (reader v) s.args.s.now s.args.at (order v) (out v) s.pre.2 (warm v) v.decode-verbatim.ensures (rest v) k.warm.given.1
+    ∙ predicted_block_lem (d.new.out ++ drop a.order a.out.now) c.fixed_coefficients-coefficients.ensures (fixed-row a.order c.requires.1) 0
+    (length a.out.now) d.new.out (first_taken a.order a.out.now c.requires.2 d.new.out d.auto.out (drop a.order a.out.now))
+    (front_replaced-length a.order a.out.now c.requires.2 d.new.out d.auto.out) a.s.now c.in-Done.p
+    ∙ front_then (λ k. many k (signed_bits a.width)) a.s.now a.at a.order a.out.now c.requires.2 d.new.out d.ensures (rest a.order (length a.out.now))
+    c.in-Done.is

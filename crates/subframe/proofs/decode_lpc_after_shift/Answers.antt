@@ -21,64 +21,51 @@ use Rattle.subframe.proofs.decode_lpc_after_shift.Goals as goal
 abbrev room : List ℤ
 room = replicate 32 (pos 0)
 
+-- what follows the coefficients
+abbrev rest : ℕ → ℕ → List ℤ → List ℤ → Ask (List ℤ)
+rest order shift out cs = residual order (length out) >>= (λ r. done (predict cs shift (take order out) r))
+
+-- the array starts with them
+front : (order : ℕ) → order ≤ 32 → (cs : List ℤ) → length cs ≡ length (take order room) → take order (cs ++ drop order room) ≡ cs
+front order h cs kept = first_taken order room h cs kept (drop order room)
+
+within : (order : ℕ) → order ≤ 32 → (cs : List ℤ) → length cs ≡ length (take order room) → order ≤ length (cs ++ drop order room)
+within order h cs kept = omega (arith, front_replaced-length order room h cs kept, h)
+
 pub slice_bounds-decode_verbatim-end : goal.slice_bounds-decode_verbatim-end
 slice_bounds-decode_verbatim-end c = sym (length-take-le c.args.order room c.requires.2)
-
--- the coefficients
-module _ (c : goal.After-decode_verbatim-read) where
-  abbrev start : goal.Start
-  start = c
-
-  abbrev order : ℕ
-  order = start.args.order
-
-  abbrev out : List ℤ
-  out = start.args.out.now
-
-  abbrev reader : ℕ → Ask (List ℤ)
-  reader k = many k (signed_bits start.args.precision)
-
-  abbrev rest : List ℤ → Ask (List ℤ)
-  rest cs = residual order (length out) >>= (λ r. done (predict cs start.args.shift (take order out) r))
-
-  abbrev coefficients : List ℤ
-  coefficients = c.decode_verbatim-read.new.1.1.1.0
-
-  -- the array starts with them
-  front : take order (coefficients ++ drop order room) ≡ coefficients
-  front = first_taken order room start.pre.2 coefficients c.decode_verbatim-read.auto.1.1.1.0 (drop order room)
-
-  within : order ≤ length (coefficients ++ drop order room)
-  within = omega (arith, front_replaced-length order room start.pre.2 coefficients c.decode_verbatim-read.auto.1.1.1.0, start.pre.2)
 
 pub returns-in_default : goal.returns-in_default
 unfolding lpc_after_shift
 returns-in_default c =
-    let v = c in let s = start v in
-    front-stops (reader v) s.args.s.now s.args.at (order v) room s.pre.2 (coefficients v) v.decode-verbatim.ensures (rest v) c.enum_told-1.given.1 _
+    let a = c.args in let d = c.decode_verbatim-read in
+    front-stops (λ k. many k (signed_bits a.precision)) a.s.now a.at a.order room c.requires.2 d.new.out d.ensures (rest a.order a.shift a.out.now)
+    c.in_default.is _
 
 pub slice_bounds-coefficients-end-2 : goal.slice_bounds-coefficients-end-2
-slice_bounds-coefficients-end-2 c = within c
+slice_bounds-coefficients-end-2 c = within c.args.order c.requires.2 c.decode_verbatim-read.new.out c.decode_verbatim-read.auto.out
 
 pub slice_bounds-decode_predicted-end : goal.slice_bounds-decode_predicted-end
-slice_bounds-decode_predicted-end c = sym (length-take-le _ _ (within c))
+slice_bounds-decode_predicted-end c =
+    sym (length-take-le _ _ (within c.args.order c.requires.2 c.decode_verbatim-read.new.out c.decode_verbatim-read.auto.out))
 
--- as many as the order, each small
-row : (c : goal.In-Done-2) → (length (coefficients c) ≡ order c) × Small (2 ^ 15) (coefficients c)
-row c =
-    let v = c in let s = start v in
-    read-row s.args.precision (order v) s.pre.0 s.args.s.now s.args.at
-    (front-got (reader v) s.args.s.now s.args.at (order v) room s.pre.2 (coefficients v) v.decode-verbatim.ensures c.read-1.given.1)
-
+-- as many coefficients as the order, each small
 pub decode_predicted-requires : goal.decode_predicted-requires
 decode_predicted-requires c =
-    let k = c in let v = k.before.before.before in let s = start v in
-    predictable (out v) (front v) (row k) s.pre.2 s.pre.3
+    let a = c.args in let d = c.decode_verbatim-read in
+    predictable a.out.now (front a.order c.requires.2 d.new.out d.auto.out)
+    (read-row a.precision a.order c.requires.0 a.s.now a.at
+    (front-got (λ k. many k (signed_bits a.precision)) a.s.now a.at a.order room c.requires.2 d.new.out d.ensures c.in-Done.is))
+    c.requires.2 c.requires.3
 
 pub returns : goal.returns
 unfolding lpc_after_shift
 returns c =
-    let k = c in let v = k.before.before.before in let s = start v in
+    let a = c.args in let d = c.decode_verbatim-read in
     c.decode_predicted.ensures
-    ∙ predicted_block_lem (out v) (front v) (row k) s.args.shift (length (out v)) (take (order v) (out v)) refl refl s.args.s.now k.read.given.0.0
-    ∙ front_then (reader v) s.args.s.now s.args.at (order v) room s.pre.2 (coefficients v) v.decode-verbatim.ensures (rest v) k.read.given.1
+    ∙ predicted_block_lem a.out.now (front a.order c.requires.2 d.new.out d.auto.out)
+    (read-row a.precision a.order c.requires.0 a.s.now a.at
+    (front-got (λ k. many k (signed_bits a.precision)) a.s.now a.at a.order room c.requires.2 d.new.out d.ensures c.in-Done.is))
+    a.shift (length a.out.now) (take a.order a.out.now) refl refl a.s.now c.in-Done.p
+    ∙ front_then (λ k. many k (signed_bits a.precision)) a.s.now a.at a.order room c.requires.2 d.new.out d.ensures (rest a.order a.shift a.out.now)
+    c.in-Done.is

@@ -11,33 +11,15 @@ use Rattle.subframe.proofs.SliceParts.{passed_on, then_done}
 use Rattle.subframe.proofs.DecodedSubframes.{predicted-put}
 use Rattle.subframe.proofs.decode_predicted.Goals as goal
 
--- the reader of the residual, and the block that a residual gives
-module _ (c : goal.After-decode_residual-residual) where
-  abbrev start : goal.Start
-  start = c
-
-  abbrev cs : List ℤ
-  cs = start.args.coefficients.now
-
-  abbrev out : List ℤ
-  out = start.args.out.now
-
-  abbrev rest : List ℤ
-  rest = c.decode_residual-residual.new.1.1.1.1.0
-
-  abbrev reader : Ask (List ℤ)
-  reader = residual (length cs) (length out)
-
-  abbrev block : List ℤ → List ℤ
-  block r = predict cs start.args.shift (take (length cs) out) r
-
+-- the residual may be refused, and then the block keeps what was left in it
 pub returns-in_default : goal.returns-in_default
 returns-in_default c =
-    let d = c in
-    passed_on (reader d) (start d).args.s.now (start d).args.at (λ r. done (block d r)) (rest d) d.decode-residual.ensures c.enum_told-1.given.1 _
+    let a = c.args in let cs = a.coefficients.now in let d = c.decode_residual-residual in
+    passed_on (residual (length cs) (length a.out.now)) a.s.now a.at (λ r. done (predict cs a.shift (take (length cs) a.out.now) r)) d.new.out d.ensures
+    c.in_default.is _
 
 pub returns : goal.returns
 returns c =
-    let k = c in let d = k.before.before.before in
-    then_done (reader d) (block d) (start d).args.s.now (start d).args.at (rest d) d.decode-residual.ensures k.residual.given.1
-    (c.predict_lpc.ensures ∙ predicted-put (cs d) (start d).args.shift (out d) (rest d) (start d).requires.1)
+    let a = c.args in let cs = a.coefficients.now in let d = c.decode_residual-residual in
+    then_done (residual (length cs) (length a.out.now)) (λ r. predict cs a.shift (take (length cs) a.out.now) r) a.s.now a.at d.new.out d.ensures
+    c.in-Done.is (c.predict_lpc.ensures ∙ predicted-put cs a.shift a.out.now d.new.out c.requires.1)

@@ -17,21 +17,25 @@ returns-then-width-gt32 c = let a = c.args in too_wide a.width (length a.out.now
 
 pub decode_after_header-requires : goal.decode_after_header-requires
 decode_after_header-requires c =
-    let k = c in let r = k.before.before in let a = r.before.before.before.args in
-    let sound = header-sound a.width a.s.now a.at (answer_is subframe_header_at r.read-subframe-header.ensures k.read.given.1) in
-    (r.before.if1.false, sound.orderly, omega (arith, sound.narrow))
+    let a = c.args in
+    let sound = header-sound a.width a.s.now a.at (answer_is subframe_header_at c.read_subframe_header-read.ensures c.in-Header.is) in
+    (c.if-width-gt32.false, sound.orderly, omega (arith, sound.narrow))
 
 pub returns-in-Header : goal.returns-in-Header
 unfolding subframe
 returns-in-Header c =
-    let k = c in let r = k.before.before in let a = r.before.before.before.args in
+    let a = c.args in
     c.decode_after_header.ensures
-    ∙ sym (bind_got_lem (subframe_header a.width) a.s.now a.at (subframe_after_header (length a.out.now) a.width) (answer_is subframe_header_at r.read-subframe-header.ensures k.read.given.1))
-    ∙ not_wide a.width (length a.out.now) a.s.now a.at r.before.if1.false
+    ∙ sym
+    (bind_got_lem (subframe_header a.width) a.s.now a.at (subframe_after_header (length a.out.now) a.width)
+    (answer_is subframe_header_at c.read_subframe_header-read.ensures c.in-Header.is))
+    ∙ not_wide a.width (length a.out.now) a.s.now a.at c.if-width-gt32.false
 
 pub returns-in-Refused : goal.returns-in-Refused
 unfolding subframe
 returns-in-Refused c =
-    let k = c in let r = k.before.before in let a = r.before.before.before.args in
-    sym (bind_refusal (subframe_header a.width) a.s.now a.at (subframe_after_header (length a.out.now) a.width) k.read2.given.0.0 (answer_is subframe_header_at r.read-subframe-header.ensures k.read2.given.1))
-    ∙ not_wide a.width (length a.out.now) a.s.now a.at r.before.if1.false
+    let a = c.args in
+    sym
+    (bind_refusal (subframe_header a.width) a.s.now a.at (subframe_after_header (length a.out.now) a.width) c.in-Refused.e
+    (answer_is subframe_header_at c.read_subframe_header-read.ensures c.in-Refused.is))
+    ∙ not_wide a.width (length a.out.now) a.s.now a.at c.if-width-gt32.false

@@ -10,6 +10,7 @@ use lib.ListN.{length}
 use Rattle.subframe.proofs.DecodedSubframes.{Mapped, begin, turn, kept, end, shift_none}
 use Rattle.rfc9639.specs.Integers.{shift_up}
 use Rattle.subframe.proofs.shift_all.Goals as goal
+use Rattle.subframe.proofs.shift_all.Goals.{then-wasted-ne0, else-wasted-ne0}
 
 pub loop-i-init : goal.loop-i-init
 loop-i-init c = begin _ _
@@ -18,10 +19,10 @@ pub loop-i-preserved : goal.loop-i-preserved
 loop-i-preserved c =
     let l = c.loop-i in
     let a = c.args in
-    ⊎_elim
-    (λ w. subst (λ (x : List ℤ). Mapped (shift_up a.wasted) a.out.now x (l.i + 1)) (sym w.2) (turn l.invariant _ (omega arith) w.1.ensures (record { sfits = search rules }) (record { sfits = w.1.ok })))
-    (λ w. subst (λ (x : List ℤ). Mapped (shift_up a.wasted) a.out.now x (l.i + 1)) (sym w.1) (kept l.invariant (omega arith) (shift_none (omega (arith, w.0.left)) (record { sfits = search rules }))))
-    c.if-wasted-ne0.branch
+    elim c.if-wasted-ne0.branch [
+      then-wasted-ne0 w ↦ subst (λ (x : List ℤ). Mapped (shift_up a.wasted) a.out.now x (l.i + 1)) (sym w.out-is) (turn l.invariant _ (omega arith) w.shift_up.ensures (search rules) (record { sfits = w.shift_up.type_inv }))
+    | else-wasted-ne0 w ↦ subst (λ (x : List ℤ). Mapped (shift_up a.wasted) a.out.now x (l.i + 1)) (sym w.out-is) (kept l.invariant (omega arith) (shift_none (omega (arith, w.if-wasted-ne0.false)) (search rules)))
+    ]
 
 pub returns : goal.returns
 returns c = end c.loop-i.invariant (omega arith)

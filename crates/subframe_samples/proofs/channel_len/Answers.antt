@@ -1,7 +1,6 @@
 -- `channel_len` meets its contract: the start of a channel fits 48 bits. Assumes nothing.
 use Prim.Native.Nat.{◌^◌}
 use native.Mathlib.Omega.{arith}
-use borrow.Author.Rules.{rules}
 use Rattle.number.proofs.ProductSums.{product_at_most}
 use Rattle.subframe_samples.proofs.channel_len.Goals as goal
 

@@ -1,9 +1,6 @@
 -- `fixed_residual` meets its contract: past the end the definition has its default. Assumes nothing.
 use native.Mathlib.Omega.{arith}
 use mathlib.Core.Path.{sym, ◌∙◌}
-use mathlib.Core.List.{List}
-use borrow.Author.Rules.{rules}
-use lib.IntN.{ℤ}
 use mir.Syntax.{w64}
 use mir.Val.{SFits}
 use mir.Facts.{to_z-of_z}
@@ -11,14 +8,12 @@ use Rattle.subframe_samples.specs.Sources.{stored_by}
 use Rattle.subframe_samples.proofs.ResidualsByIndex.{fixed_residuals_at, fixed_residuals-past-end}
 use Rattle.subframe_samples.proofs.fixed_residual.Goals as goal
 
-abbrev xs : goal.Start → List ℤ
-xs s = stored_by s.args.source s.args.samples.now
-
 pub returns-then-saturating_sub-j : goal.returns-then-saturating_sub-j
-returns-then-saturating_sub-j c = let s = c in (sym (fixed_residuals-past-end s.args.order (xs s) s.args.j (omega arith)), omega arith)
+returns-then-saturating_sub-j c =
+    (sym (fixed_residuals-past-end c.args.order (stored_by c.args.source c.args.samples.now) c.args.j (omega arith)), omega arith)
 
 pub returns : goal.returns
 returns c =
-    let s = c in
-    let f : SFits w64 c.residual_at.result = record { sfits = c.residual_at.type-inv } in
-    rw (to_z-of_z f) (c.residual_at.ensures.0 ∙ sym (fixed_residuals_at s.args.order (xs s) s.args.j (omega arith)), c.residual_at.ensures.1)
+    let f : SFits w64 c.residual_at.result = record { sfits = c.residual_at.type_inv } in
+    let at = fixed_residuals_at c.args.order (stored_by c.args.source c.args.samples.now) c.args.j (omega arith) in
+    rw (to_z-of_z f) (c.residual_at.ensures.0 ∙ sym at, c.residual_at.ensures.1)

@@ -1,7 +1,6 @@
 -- `stored_sample` meets its contract: past the end the definition has its default. Assumes nothing.
 use native.Mathlib.Omega.{arith}
 use mathlib.Core.Path.{sym}
-use borrow.Author.Rules.{rules}
 use lib.IntN.{pos}
 use lib.ListN.{get_or-eq_default}
 use Rattle.subframe_samples.specs.Sources.{stored_by}

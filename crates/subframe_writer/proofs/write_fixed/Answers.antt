@@ -9,5 +9,4 @@ use Rattle.subframe_writer.proofs.write_fixed.Goals as goal
 pub returns : goal.returns
 unfolding coded_as
 returns c =
-    let w = c in
-    inked_then (wrote-once (binary_append (bits-subframe_header_bits _) (bits-plain _ _)) w.before.before.before.before.write-head-and-plain.ensures) _ w.write-residual.ensures
+    inked_then (wrote-once (binary_append (bits-subframe_header_bits _) (bits-plain _ _)) c.write_head_and_plain-p.ensures) _ c.write_residual.ensures

@@ -8,5 +8,4 @@ use Rattle.subframe_writer.proofs.write_head.Goals as goal
 pub returns : goal.returns
 unfolding subframe_header_bits
 returns c =
-    let w3 = c in let w2 = w3.before.before.before.before in let w1 = w2.before.before.before.before in
-    inked_then (wrote_after (wrote-once (binary-bits_of 1 0) w1.write-bits.ensures) (binary-bits_of 6 _) w2.write-bits2.ensures) _ w3.write-bits3.ensures
+    inked_then (wrote_after (wrote-once (binary-bits_of 1 0) c.write_bits-after_zero.ensures) (binary-bits_of 6 _) c.write_bits-after_code.ensures) _ c.write_bits.ensures

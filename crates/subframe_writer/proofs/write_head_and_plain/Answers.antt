@@ -5,6 +5,4 @@ use Rattle.bit_writer.proofs.ConsecutiveWrites.{wrote-once, inked_then}
 use Rattle.subframe_writer.proofs.write_head_and_plain.Goals as goal
 
 pub returns : goal.returns
-returns c =
-    let w = c in
-    inked_then (wrote-once (bits-subframe_header_bits _) w.before.before.before.before.write-head.ensures) _ w.write-plain.ensures
+returns c = inked_then (wrote-once (bits-subframe_header_bits _) c.write_head-p.ensures) _ c.write_plain.ensures

@@ -6,6 +6,7 @@ use borrow.Author.Rules.{rules}
 use lib.IntN.{pos}
 use lib.ListN.{take, length-take}
 use lib.Seq.{get_or-take}
+use mir.Syntax.{w64}
 use mir.Facts.{to_z-of_z}
 use Rattle.reading.specs.NumbersAsBits.{bits_of}
 use Rattle.reading.proofs.NumbersAsBits.{binary-bits_of}
@@ -22,12 +23,11 @@ loop-i-init c = begin _ _
 
 pub loop-i-preserved : goal.loop-i-preserved
 loop-i-preserved c =
-    let w = c in let x = w.before.before.before in let l = x.before.before in
-    let s = l.before.before.before.before in let a = s.args in
-    step l.loop.invariant (pos 0) (rw length-take (omega arith))
-    (to_z-of_z (record { sfits = x.stored-sample.type-inv }) ∙ x.stored-sample.ensures ∙ sym (get_or-take a.most (stored_by a.source a.samples.now) l.loop.i (pos 0) (omega arith)))
-    (binary-bits_of a.width _)
-    (w.write-bits.ensures ∙ ap (λ v. inked (bits_of a.width v) l.loop.p l.loop.out) (w.before.low-bits.ensures ∙ low_bits-low a.width _ s.requires))
+    step c.loop-i.invariant (pos 0) (rw length-take (omega arith))
+    (to_z-of_z {w = w64} (record { sfits = c.stored_sample-x.type_inv }) ∙ c.stored_sample-x.ensures
+    ∙ sym (get_or-take c.args.most (stored_by c.args.source c.args.samples.now) c.loop-i.i (pos 0) (omega arith)))
+    (binary-bits_of c.args.width _)
+    (c.write_bits-p.ensures ∙ ap (λ v. inked (bits_of c.args.width v) c.loop-i.p c.loop-i.out) (c.low_bits.ensures ∙ low_bits-low c.args.width _ c.requires))
 
 pub returns : goal.returns
 unfolding plain

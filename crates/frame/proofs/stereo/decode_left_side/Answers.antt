@@ -15,7 +15,7 @@ unfolding right_of
 loop-i-preserved c =
     let k = c in
     step_right k.loop.invariant (omega arith) (record { sfits = search rules }) (record { sfits = search rules }) c.wrapping_sub.result
-    (record { sfits = c.wrapping_sub.type-inv }) c.wrapping_sub.ensures
+    (record { sfits = c.wrapping_sub.type_inv }) c.wrapping_sub.ensures
 
 pub shape_of-out : goal.shape_of-out
 shape_of-out c = omega (arith, c.loop-i.invariant.long, c.requires)

@@ -15,7 +15,7 @@ unfolding left_of
 loop-i-preserved c =
     let k = c in
     step_left k.loop.invariant (omega arith) (record { sfits = search rules }) (record { sfits = search rules }) c.wrapping_add.result
-    (record { sfits = c.wrapping_add.type-inv }) c.wrapping_add.ensures
+    (record { sfits = c.wrapping_add.type_inv }) c.wrapping_add.ensures
 
 pub shape_of-out : goal.shape_of-out
 shape_of-out c = omega (arith, c.loop-i.invariant.long, c.requires)

@@ -16,7 +16,7 @@ pub overflow_cast-s : goal.overflow_cast-s
 overflow_cast-s c = widen_fits c.ranges.side
 
 down : (c : goal.After-shift_down) → to_z w64 (of_z w64 c.shift_down.result) ≡ shift_down 1 c.args.side
-down c = to_z-of_z (record { sfits = c.shift_down.type-inv }) ∙ c.shift_down.ensures ∙ ap (shift_down 1) (widened c.ranges.side)
+down c = to_z-of_z (record { sfits = c.shift_down.type_inv }) ∙ c.shift_down.ensures ∙ ap (shift_down 1) (widened c.ranges.side)
 
 pub overflow_mul-low : goal.overflow_mul-low
 overflow_mul-low c = rw (down c) (twice-fits (to_sfits (shift_down-fits (of_sfits c.ranges.side) 1)))
@@ -47,5 +47,5 @@ overflow_add-mid c = rw (twice c, bit c) (doubled_fits c.ranges.mid c.args.side)
 pub returns : goal.returns
 unfolding doubled
 returns c =
-    to_z-of_z (record { sfits = c.low32.type-inv }) ∙ c.low32.ensures
+    to_z-of_z (record { sfits = c.low32.type_inv }) ∙ c.low32.ensures
     ∙ ap (wrapped 32) (to_z-of_z (add-low32 c) ∙ ap₂ (λ (a b : ℤ). a +ℤ b) (twice c) (bit c))

@@ -7,11 +7,11 @@ use Rattle.frame.proofs.StereoPairs.{half_of}
 use Rattle.frame.proofs.stereo.right_of_mid.Goals as goal
 
 pub overflow_cast-difference : goal.overflow_cast-difference
-overflow_cast-difference c = widen_fits {z = c.wrapping_sub-difference.result} (record { sfits = c.wrapping_sub-difference.type-inv })
+overflow_cast-difference c = widen_fits {z = c.wrapping_sub-difference.result} (record { sfits = c.wrapping_sub-difference.type_inv })
 
 pub returns : goal.returns
 unfolding right_of_mid
 returns c =
     let d = c in let u = d.before in let t = u.before in let f = t.before.ranges in
-    half_of (λ (a b : ℤ). a -ℤ b) f.mid f.side (record { sfits = t.doubled.type-inv }) (record { sfits = u.wrapping-sub.type-inv }) (record { sfits = d.shift-down.type-inv })
-    (record { sfits = c.low32.type-inv }) t.doubled.ensures u.wrapping-sub.ensures d.shift-down.ensures c.low32.ensures
+    half_of (λ (a b : ℤ). a -ℤ b) f.mid f.side (record { sfits = t.doubled.type_inv }) (record { sfits = u.wrapping-sub.type_inv }) (record { sfits = d.shift-down.type_inv })
+    (record { sfits = c.low32.type_inv }) t.doubled.ensures u.wrapping-sub.ensures d.shift-down.ensures c.low32.ensures

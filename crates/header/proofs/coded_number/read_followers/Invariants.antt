@@ -1,13 +1,5 @@
 -- The bytes after the first, as the definition reads them; the loop counts down those to come. Assumes nothing.
-use borrow.Author.Rules.{rules}
-use borrow.Author.Tests.{not-true, not-false}
-use native.Mathlib.Omega.{arith}
-use mathlib.Core.Path.{◌≡◌, sym}
-use Rattle.reading.specs.Readers.{bits}
-use Rattle.reading.specs.Places.{got_at, run_at}
-use Rattle.reading.proofs.ByteRuns.{run_at-out}
-use Rattle.input.proofs.Callers.{read-got, read_short}
-use Rattle.header.proofs.CodedNumber.{FollowersLeft, begin, end, follower_short, follower_refused, step, number_fits}
+use Rattle.header.proofs.CodedNumber.{FollowersLeft}
 use Rattle.header.proofs.coded_number.read_followers.Given as goal
 
 abbrev pub invariant-loop-left : goal.invariant-loop-left

@@ -1,5 +1,4 @@
 -- The number by its first byte, test by test as in the definition. Assumes nothing.
-use borrow.Author.Rules.{rules}
 use borrow.Author.Tests.{lt-ltb, le-ltb}
 use mathlib.Core.Path.{sym}
 use Rattle.reading.proofs.ByteRuns.{inside_in, run_at-stop}

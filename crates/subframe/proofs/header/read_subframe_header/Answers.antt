@@ -8,14 +8,10 @@ use Rattle.subframe.proofs.HeaderFields.{zero_bit-short, zero_bit-set, zero_bit_
 use Rattle.subframe.proofs.header.read_subframe_header.Goals as goal
 
 pub returns-in_default : goal.returns-in_default
-returns-in_default c = sym (zero_bit-short _ _ _ (bit_is _ _ c.read_bits_lem.ensures c.enum_told-1.given.1))
-
--- the bit that was read
-reserved-got : (c : goal.In-Value-2) → run_at (bits 1) c.args.s.now c.args.at ≡ got_at c.reserved-1.given.0.0 c.reserved-1.given.0.1.0
-reserved-got c = bit_is _ _ c.read_bits_lem.ensures c.reserved-1.given.1
+returns-in_default c = sym (zero_bit-short _ _ _ (bit_is _ _ c.read_bits-reserved.ensures c.in_default.is))
 
 pub returns-then-v-ne0 : goal.returns-then-v-ne0
-returns-then-v-ne0 c = sym (zero_bit-set _ _ _ (reserved-got c) c.if-v-ne0.true)
+returns-then-v-ne0 c = sym (zero_bit-set _ _ _ (bit_is _ _ c.read_bits-reserved.ensures c.in-Value.is) c.if-v-ne0.true)
 
 pub returns : goal.returns
-returns c = c.read_kind.ensures ∙ sym (zero_bit_clear _ _ _ (reserved-got c) c.if-v-ne0.false)
+returns c = c.read_kind.ensures ∙ sym (zero_bit_clear _ _ _ (bit_is _ _ c.read_bits-reserved.ensures c.in-Value.is) c.if-v-ne0.false)

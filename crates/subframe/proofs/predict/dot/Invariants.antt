@@ -1,4 +1,8 @@
--- `dot`: the products from j on are added up, and the sum is small enough (DotSoFar). Assumes nothing.
+-- `dot`: the products from j on are added up, and the sum is small enough (DotSoFar), which is of its bits. Assumes nothing.
+use Prim.Native.Nat.{ℕ}
+use mathlib.Core.Path.{◌≡◌}
+use mir.Syntax.{w64}
+use mir.Val.{to_z}
 use native.Mathlib.Omega.{arith}
 use mathlib.Core.Path.{refl}
 use mathlib.Core.List.{reverse}
@@ -10,7 +14,7 @@ use Rattle.subframe.proofs.PredictionSums.{mul_add-asks, turn}
 use Rattle.subframe.proofs.predict.dot.Given as goal
 
 abbrev pub invariant-loop-j : goal.invariant-loop-j
-invariant-loop-j l = DotSoFar (take l.order l.taps) (reverse l.before) l.sum l.j
+invariant-loop-j l = (acc : ℕ) × (l.sum ≡ to_z w64 acc) × DotSoFar (take l.order l.taps) (reverse l.before) acc l.j
 
 abbrev pub decreases-loop-j : goal.decreases-loop-j
 decreases-loop-j l = l.j

@@ -9,15 +9,15 @@ pub returns-then-coefficients-eq1 : goal.returns-then-coefficients-eq1
 unfolding fixed_coefficients
 returns-then-coefficients-eq1 c =
     let l = c.args.coefficients.now in
-    (omega arith, coefficient_is l 0 (omega arith) (record { sfits = search rules }) c.if-coefficients-eq1.true (row-end l 1 (omega arith)), search rules)
+    (omega arith, coefficient_is l 0 (omega arith) (search rules) c.if-coefficients-eq1.true (row-end l 1 (omega arith)), search rules)
 
 pub returns-then-coefficients : goal.returns-then-coefficients
 unfolding fixed_coefficients
 returns-then-coefficients c =
     let l = c.args.coefficients.now in (
       omega arith,
-      coefficient_is l 0 (omega arith) (record { sfits = search rules }) c.if-coefficients-eq2.true
-          (coefficient_is l 1 (omega arith) (record { sfits = search rules }) c.if-coefficients.true (row-end l 2 (omega arith))),
+      coefficient_is l 0 (omega arith) (search rules) c.if-coefficients-eq2.true
+          (coefficient_is l 1 (omega arith) (search rules) c.if-coefficients.true (row-end l 2 (omega arith))),
       search rules,
     )
 
@@ -26,8 +26,8 @@ unfolding fixed_coefficients
 returns-then-coefficients-eq1-2 c =
     let l = c.args.coefficients.now in (
       omega arith,
-      coefficient_is l 0 (omega arith) (record { sfits = search rules }) c.if-coefficients-eq3.true
-          (coefficient_is l 1 (omega arith) (record { sfits = search rules }) c.if-coefficients-2.true
-          (coefficient_is l 2 (omega arith) (record { sfits = search rules }) c.if-coefficients-eq1-2.true (row-end l 3 (omega arith)))),
+      coefficient_is l 0 (omega arith) (search rules) c.if-coefficients-eq3.true
+          (coefficient_is l 1 (omega arith) (search rules) c.if-coefficients-2.true
+          (coefficient_is l 2 (omega arith) (search rules) c.if-coefficients-eq1-2.true (row-end l 3 (omega arith)))),
       search rules,
     )

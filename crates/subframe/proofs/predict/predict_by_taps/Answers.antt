@@ -12,34 +12,27 @@ use mir.Facts.{to_z-of_z}
 use Rattle.subframe.proofs.PredictionInPlace.{Restored, begin, turn, end, resumed-predict}
 use Rattle.subframe.proofs.predict.predict_by_taps.Goals as goal
 
-as_many : (c : goal.Start) → length (take c.args.order c.args.taps.now) ≡ c.args.order
-as_many c = length-take-le c.args.order c.args.taps.now c.requires.0
-
 pub loop-i-init : goal.loop-i-init
-loop-i-init c = begin _ _ _ _ (omega (arith, as_many c))
+loop-i-init c = begin _ _ _ _ (omega (arith, length-take-le c.args.order c.args.taps.now c.requires.0))
 
 pub dot-sum-requires : goal.dot-sum-requires
 dot-sum-requires c =
-    let l = c in let s = l.before in (
-      s.requires.0,
+    let l = c.loop-i in let a = c.args in (
+      c.requires.0,
       (
-        s.requires.1.0,
-        omega (arith, as_many s, mid_len (l.loop.i - s.args.order) l.loop.i l.loop.out l.loop.invariant.within, l.loop.invariant.least),
-        s.requires.1.2,
+        c.requires.1.0,
+        omega (arith, length-take-le a.order a.taps.now c.requires.0, mid_len (l.i - a.order) l.i l.out l.invariant.within, l.invariant.least),
+        c.requires.1.2,
       ),
     )
 
-sum_fits : (c : goal.After-dot-sum) → SFits w64 c.dot-sum.result
-sum_fits c = record { sfits = c.dot-sum.type-inv }
-
 pub restore-requires : goal.restore-requires
-restore-requires c = rw (to_z-of_z (sum_fits c)) c.dot-sum.ensures.1
+restore-requires c = let f : SFits w64 c.dot-sum.result = record { sfits = c.dot-sum.type_inv } in rw (to_z-of_z f) c.dot-sum.ensures.1
 
 pub loop-i-preserved : goal.loop-i-preserved
 loop-i-preserved c =
-    let d = c in let l = d.before.before.before.before in
-    turn l.loop.invariant (as_many l.before) _ _ (omega arith) d.dot.ensures.0 c.restore.ensures (sum_fits d) (record { sfits = search rules })
-    (record { sfits = c.restore.type-inv })
+    turn c.loop-i.invariant (length-take-le c.args.order c.args.taps.now c.requires.0) _ _ (omega arith) c.dot-sum.ensures.0 c.restore.ensures
+    (record { sfits = c.dot-sum.type_inv }) (search rules) (record { sfits = c.restore.type_inv })
 
 pub returns : goal.returns
-returns c = end c.loop-i.invariant (omega arith) ∙ resumed-predict _ _ _ _ (as_many c)
+returns c = end c.loop-i.invariant (omega arith) ∙ resumed-predict _ _ _ _ (length-take-le c.args.order c.args.taps.now c.requires.0)

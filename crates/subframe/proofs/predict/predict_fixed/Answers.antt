@@ -1,5 +1,5 @@
 -- `predict_fixed`: each turn restores one sample (Restored). Assumes nothing.
-use Prim.Native.Nat.{◌-◌}
+use Prim.Native.Nat.{ℕ, ◌-◌, ◌≤◌}
 use native.Mathlib.Omega.{arith}
 use mathlib.Core.Path.{◌≡◌, ◌∙◌}
 use borrow.Author.Rules.{rules}
@@ -13,28 +13,24 @@ use Rattle.subframe.proofs.PredictionSums.{fixed-row}
 use Rattle.subframe.proofs.PredictionInPlace.{Restored, begin, turn, end, resumed-predict}
 use Rattle.subframe.proofs.predict.predict_fixed.Goals as goal
 
-as_many : (c : goal.Start) → length (fixed_coefficients c.args.order) ≡ c.args.order
-as_many c = (fixed-row c.args.order (omega arith)).0
+as_many : (order : ℕ) → order ≤ 3 → length (fixed_coefficients order) ≡ order
+as_many order h = (fixed-row order (omega arith)).0
 
 pub loop-i-init : goal.loop-i-init
-loop-i-init c = begin _ _ _ _ (omega (arith, as_many c))
+loop-i-init c = begin _ _ _ _ (omega arith)
 
 pub fixed_sum-sum-requires : goal.fixed_sum-sum-requires
 fixed_sum-sum-requires c =
-    let l = c in let s = l.before in
-    (s.requires.0, s.requires.1, omega (arith, mid_len (l.loop.i - s.args.order) l.loop.i l.loop.out l.loop.invariant.within, l.loop.invariant.least))
-
-sum_fits : (c : goal.After-fixed_sum-sum) → SFits w64 c.fixed_sum-sum.result
-sum_fits c = record { sfits = c.fixed_sum-sum.type-inv }
+    let l = c.loop-i in
+    (c.requires.0, c.requires.1, omega (arith, mid_len (l.i - c.args.order) l.i l.out l.invariant.within, l.invariant.least))
 
 pub restore-requires : goal.restore-requires
-restore-requires c = rw (to_z-of_z (sum_fits c)) c.fixed_sum-sum.ensures.1
+restore-requires c = let f : SFits w64 c.fixed_sum-sum.result = record { sfits = c.fixed_sum-sum.type_inv } in rw (to_z-of_z f) c.fixed_sum-sum.ensures.1
 
 pub loop-i-preserved : goal.loop-i-preserved
 loop-i-preserved c =
-    let d = c in let l = d.before.before.before.before in
-    turn l.loop.invariant (as_many l.before) _ _ (omega arith) d.fixed-sum.ensures.0 c.restore.ensures (sum_fits d) (record { sfits = search rules })
-    (record { sfits = c.restore.type-inv })
+    turn c.loop-i.invariant (as_many c.args.order c.requires.1) _ _ (omega arith) c.fixed_sum-sum.ensures.0 c.restore.ensures
+    (record { sfits = c.fixed_sum-sum.type_inv }) (search rules) (record { sfits = c.restore.type_inv })
 
 pub returns : goal.returns
-returns c = end c.loop-i.invariant (omega arith) ∙ resumed-predict _ _ _ _ (as_many c)
+returns c = end c.loop-i.invariant (omega arith) ∙ resumed-predict _ _ _ _ (as_many c.args.order c.requires.1)

@@ -8,10 +8,8 @@ use Rattle.subframe.proofs.predict.predict_lpc_low_order.Goals as goal
 
 pub predict_to_12-requires : goal.predict_to_12-requires
 predict_to_12-requires c =
-    let t = c in let s = t.before in
-    (s.requires.0, taps_ask s.args.coefficients.now s.args.out.now t.taps-of.ensures refl (le_trans s.requires.0 (lit≤ tt), s.requires.1, s.requires.2))
+    let a = c.args in
+    (c.requires.0, taps_ask a.coefficients.now a.out.now c.taps_of-taps.ensures refl (le_trans c.requires.0 (lit≤ tt), c.requires.1, c.requires.2))
 
 pub returns : goal.returns
-returns c =
-    let t = c in let s = t.before in
-    taps_promise s.args.coefficients.now s.args.out.now t.taps-of.ensures refl s.args.shift c.predict_to_12.ensures
+returns c = let a = c.args in taps_promise a.coefficients.now a.out.now c.taps_of-taps.ensures refl a.shift c.predict_to_12.ensures

@@ -15,9 +15,8 @@ loop-j-init c = pad-begin 32 _
 
 pub loop-j-preserved : goal.loop-j-preserved
 loop-j-preserved c =
-    let l = c in
-    let f : SFits w32 (get_or l.before.args.coefficients.now l.loop.j (pos 0)) = record { sfits = search rules } in
-    rw (to_z-of_z f) (pad-step l.loop.invariant (omega arith) (omega arith))
+    let f : SFits w32 (get_or c.args.coefficients.now c.loop-j.j (pos 0)) = search rules in
+    rw (to_z-of_z f) (pad-step c.loop-j.invariant (omega arith) (omega arith))
 
 pub returns : goal.returns
 returns c = pad-end c.loop-j.invariant (omega arith)

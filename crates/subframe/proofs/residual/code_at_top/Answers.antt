@@ -15,6 +15,5 @@ folded-requires c = (omega arith, omega arith, remainder_fits _ _ _ (omega arith
 
 pub returns : goal.returns
 returns c =
-    to_z-of_z (record { sfits = c.«unfold».type-inv }) ∙ c.«unfold».ensures
-    ∙ ap unfolded
-    (c.folded.ensures ∙ ap (folded _ _) (remainder_is _ _ _ (omega arith) (omega arith) c.requires.3))
+    to_z-of_z (record { sfits = c.«unfold».type_inv }) ∙ c.«unfold».ensures
+    ∙ ap unfolded (c.folded.ensures ∙ ap (folded _ _) (remainder_is _ _ _ (omega arith) (omega arith) c.requires.3))

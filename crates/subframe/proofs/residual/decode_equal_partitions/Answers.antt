@@ -9,11 +9,10 @@ use Rattle.subframe.proofs.Partitions.{Parted, begin, room, part-keeps-length, s
 use Rattle.subframe.proofs.residual.decode_equal_partitions.Goals as goal
 
 pub returns-then-not-is_inside : goal.returns-then-not-is_inside
-returns-then-not-is_inside c = sym (run_at-out _ _ _ (cc (not-true c.is_inside.result c.if-not-is_inside.true)))
+returns-then-not-is_inside c = sym (run_at-out _ _ _ (sym c.is_inside.ensures ∙ c.if-not-is_inside.true))
 
 pub loop-left-init : goal.loop-left-init
-loop-left-init c =
-    begin _ _ _ _ (inside_in _ _ (cc (not-false c.is_inside.result c.if-not-is_inside.false))) c.requires.1
+loop-left-init c = begin _ _ _ _ (inside_in _ _ (sym c.is_inside.ensures ∙ c.if-not-is_inside.false)) c.requires.1
 
 pub overflow_add-end : goal.overflow_add-end
 overflow_add-end c = omega (arith, room c.loop-left.invariant (omega arith))
@@ -21,23 +20,17 @@ overflow_add-end c = omega (arith, room c.loop-left.invariant (omega arith))
 pub offset_bounds-out-start : goal.offset_bounds-out-start
 offset_bounds-out-start c = omega (arith, room c.loop-left.invariant (omega arith))
 
-pub part-decode-partition-end-UNKNOWN : goal.part-decode-partition-end-UNKNOWN
-part-decode-partition-end-UNKNOWN c = room c.loop-left.invariant (omega arith)
-
 pub loop-left-preserved : goal.loop-left-preserved
 loop-left-preserved c =
-    let b = c in
-    step b.before.before.before.loop.invariant (omega arith) _ b.decode-partition.ensures c.read-1.given.1 b.decode-partition.auto.1.1.1.0
+    step c.loop-left.invariant (omega arith) _ c.decode_partition-read.ensures c.in-Done.is c.decode_partition-read.auto.out
 
 pub shape_of-out-in-Refused : goal.shape_of-out-in-Refused
 shape_of-out-in-Refused c =
-    let b = c in
-    part-keeps-length b.before.before.before.loop.invariant (omega arith) b.decode-partition.new.1.1.1.0 b.decode-partition.auto.1.1.1.0
+    part-keeps-length c.loop-left.invariant (omega arith) c.decode_partition-read.new.out c.decode_partition-read.auto.out
 
 pub returns-in-Refused : goal.returns-in-Refused
 returns-in-Refused c =
-    let b = c in
-    stops b.before.before.before.loop.invariant (omega arith) b.decode-partition.new.1.1.1.0 b.decode-partition.ensures c.read-in-Refused-1.given.1
+    stops c.loop-left.invariant (omega arith) c.decode_partition-read.new.out c.decode_partition-read.ensures c.in-Refused.is
 
 pub shape_of-out : goal.shape_of-out
 shape_of-out c = c.loop-left.invariant.long

@@ -18,14 +18,12 @@ slice_bounds-decode_partition-end-2 c = sym (length-take-le _ _ (omega arith))
 pub returns-in_default : goal.returns-in_default
 unfolding each
 returns-in_default c =
-    let b = c in let a = b.before.before.before.args in let d = b.decode-partition in
-    front-stops (partition a.method) a.s.now a.at (a.size - a.warm) a.out.now (omega arith) d.new.1.1.1.0 d.ensures _ c.enum_told-1.given.1 _
+    let a = c.args in let d = c.decode_partition-read in
+    front-stops (partition a.method) a.s.now a.at (a.size - a.warm) a.out.now (omega arith) d.new.out d.ensures _ c.in_default.is _
 
 pub returns : goal.returns
 returns c =
-    let b = c in let a = b.before.before.before.args in
-    let d = b.decode-partition in let r = c.decode_equal_partitions in
-    ap (samples_at r.result) (parts-put (a.size - a.warm) a.out.now (omega arith) d.new.1.1.1.0 d.auto.1.1.1.0 r.new.1.1.1.1.1.0)
+    let a = c.args in let d = c.decode_partition-read in let r = c.decode_equal_partitions in
+    ap (samples_at r.result) (parts-put (a.size - a.warm) a.out.now (omega arith) d.new.out d.auto.out r.new.out)
     ∙ first_then (partition a.method) (a.size - a.warm) (replicate a.count a.size) a.s.now a.at
-    (front-got (partition a.method) a.s.now a.at (a.size - a.warm) a.out.now (omega arith) d.new.1.1.1.0 d.ensures c.read-1.given.1)
-    r.result r.new.1.1.1.1.1.0 r.ensures
+    (front-got (partition a.method) a.s.now a.at (a.size - a.warm) a.out.now (omega arith) d.new.out d.ensures c.in-Done.is) r.result r.new.out r.ensures

@@ -14,27 +14,24 @@ use Rattle.subframe.proofs.RiceWords.{byte-within}
 use Rattle.subframe.proofs.residual.decode_rice.Goals as goal
 
 pub returns-then-not-is_inside : goal.returns-then-not-is_inside
-returns-then-not-is_inside c = sym (run_at-out _ _ _ (cc (not-true c.is_inside.result c.if-not-is_inside.true)))
+returns-then-not-is_inside c = sym (run_at-out _ _ _ (sym c.is_inside.ensures ∙ c.if-not-is_inside.true))
 
 pub loop-i-init : goal.loop-i-init
 loop-i-init c =
-    let a = c.args in
-    let here = inside_in a.s.now a.at (cc (not-false c.is_inside.result c.if-not-is_inside.false)) in
+    let a = c.args in let here = inside_in a.s.now a.at (sym c.is_inside.ensures ∙ c.if-not-is_inside.false) in
     (rw (position-place a.at here.bit) (begin _ _ here), omega (arith, here.bit))
 
 pub read_rice-read-requires : goal.read_rice-read-requires
 read_rice-read-requires c = let inv = c.loop-i.invariant in (omega arith, byte-within _ inv.0.place, inv.1)
 
 pub loop-i-preserved : goal.loop-i-preserved
-loop-i-preserved c =
-    let b = c in let e = c.read-1.given.1 in (
-      step b.before.before.loop.invariant.0 rice_read_at b.read-rice.ensures.0 e refl (record { sfits = search rules }) (omega arith),
-      subst StartsInWord e b.read-rice.ensures.1,
-    )
+loop-i-preserved c = (
+  step c.loop-i.invariant.0 rice_read_at c.read_rice-read.ensures.0 c.in-Value.is refl (search rules) (omega arith),
+  subst StartsInWord c.in-Value.is c.read_rice-read.ensures.1,
+)
 
 pub returns-in-Short : goal.returns-in-Short
-returns-in-Short c =
-    let b = c in cut b.before.before.loop.invariant.0 rice_read_at b.read-rice.ensures.0 c.enum_told-1.given.1 refl (omega arith)
+returns-in-Short c = cut c.loop-i.invariant.0 rice_read_at c.read_rice-read.ensures.0 c.in-Short.is refl (omega arith)
 
 pub place_at-requires : goal.place_at-requires
 place_at-requires c = let inv = c.loop-i.invariant in (omega (arith, byte-within _ inv.0.place), inv.1)

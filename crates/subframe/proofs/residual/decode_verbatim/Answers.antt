@@ -12,18 +12,16 @@ use Rattle.subframe.proofs.FilledSlices.{Filling, begin, step, cut, end}
 use Rattle.subframe.proofs.residual.decode_verbatim.Goals as goal
 
 pub returns-then-not-is_inside : goal.returns-then-not-is_inside
-returns-then-not-is_inside c = sym (run_at-out _ _ _ (cc (not-true c.is_inside.result c.if-not-is_inside.true)))
+returns-then-not-is_inside c = sym (run_at-out _ _ _ (sym c.is_inside.ensures ∙ c.if-not-is_inside.true))
 
 pub loop-i-init : goal.loop-i-init
-loop-i-init c = begin _ _ (inside_in _ _ (cc (not-false c.is_inside.result c.if-not-is_inside.false)))
+loop-i-init c = begin _ _ (inside_in _ _ (sym c.is_inside.ensures ∙ c.if-not-is_inside.false))
 
 pub loop-i-preserved : goal.loop-i-preserved
-loop-i-preserved c =
-    let b = c in
-    step b.before.before.loop.invariant sample_read_at b.read-sample.ensures c.read-1.given.1 refl (record { sfits = search rules }) (omega arith)
+loop-i-preserved c = step c.loop-i.invariant sample_read_at c.read_sample-read.ensures c.in-Value.is refl (search rules) (omega arith)
 
 pub returns-in-Short : goal.returns-in-Short
-returns-in-Short c = let b = c in cut b.before.before.loop.invariant sample_read_at b.read-sample.ensures c.enum_told-1.given.1 refl (omega arith)
+returns-in-Short c = cut c.loop-i.invariant sample_read_at c.read_sample-read.ensures c.in-Short.is refl (omega arith)
 
 pub returns : goal.returns
 returns c = end c.loop-i.invariant (omega arith)

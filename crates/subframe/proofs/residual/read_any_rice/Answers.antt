@@ -4,11 +4,7 @@ use Rattle.subframe.proofs.RiceWords.{any_got, any_short}
 use Rattle.subframe.proofs.residual.read_any_rice.Goals as goal
 
 pub returns-in-Value : goal.returns-in-Value
-returns-in-Value c =
-    let b = c in
-    any_got _ _ _ b.before.place_at.ensures b.read-long-rice.ensures c.read-1.given.1 (record { sfits = search rules })
+returns-in-Value c = any_got _ _ _ c.place_at.ensures c.read_long_rice-read.ensures c.in-Value.is (search rules)
 
 pub returns-in-Short : goal.returns-in-Short
-returns-in-Short c =
-    let b = c in
-    (any_short _ _ _ b.before.place_at.ensures b.read-long-rice.ensures c.enum_told-1.given.1, tt)
+returns-in-Short c = (any_short _ _ _ c.place_at.ensures c.read_long_rice-read.ensures c.in-Short.is, tt)

@@ -15,8 +15,8 @@ pub code_at_top-requires : goal.code_at_top-requires
 code_at_top-requires c = (omega arith, omega arith, omega arith, first_one 64 _ (pos_of_ne-zero c.if-w-eq0.false) (mod-lt _ (pow_pos 64)))
 
 pub returns : goal.returns
-returns c =
-    let w = c in (
-      rice_in_word _ _ _ _ w.word-from.ensures refl c.if-w-eq0.false refl refl (omega arith) _ c.code_at_top.ensures (record { sfits = c.code_at_top.type-inv }) (omega arith),
-      omega arith,
-    )
+returns c = (
+  rice_in_word _ _ _ _ c.word_from.ensures refl c.if-w-eq0.false refl refl (omega arith) _ c.code_at_top.ensures
+      (record { sfits = c.code_at_top.type_inv }) (omega arith),
+  omega arith,
+)

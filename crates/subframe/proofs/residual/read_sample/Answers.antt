@@ -5,10 +5,9 @@ use Rattle.subframe.proofs.SampleReaders.{sample-short, sample-got}
 use Rattle.subframe.proofs.residual.read_sample.Goals as goal
 
 pub returns-in_default : goal.returns-in_default
-returns-in_default c = sample-short _ _ _ (omega arith) c.read_bits_lem.ensures c.enum_told-1.given.1
+returns-in_default c = sample-short _ _ _ (omega arith) c.read_bits-read.ensures c.in_default.is
 
 pub returns : goal.returns
 returns c =
-    let extended = c.sign_extend in
-    sample-got _ _ _ (omega arith) c.read_bits_lem.ensures c.read-1.given.1
-    extended.ensures (record { sfits = extended.type-inv }) c.low32.ensures (record { sfits = c.low32.type-inv })
+    sample-got _ _ _ (omega arith) c.read_bits-read.ensures c.in-Value.is c.sign_extend.ensures (record { sfits = c.sign_extend.type_inv }) c.low32.ensures
+    (record { sfits = c.low32.type_inv })

@@ -27,7 +27,7 @@ loop-i-preserved c =
     let d = c in
     step d.before.before.loop.invariant (omega arith)
     (sym d.stored-sample2.ensures
-    ∙ equal_by_bits (record { sfits = d.stored-sample2.type-inv }) (record { sfits = (f d).stored-sample.type-inv }) c.if-x-first.false ∙ (f d).stored-sample.ensures)
+    ∙ equal_by_bits (record { sfits = d.stored-sample2.type_inv }) (record { sfits = (f d).stored-sample.type_inv }) c.if-x-first.false ∙ (f d).stored-sample.ensures)
 
 pub returns : goal.returns
 returns c = end c.loop-i.invariant (omega arith)

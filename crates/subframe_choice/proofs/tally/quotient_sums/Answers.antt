@@ -21,7 +21,7 @@ module _ (c : goal.After-fold-f) where
   l = c
 
   folded : c.fold-f.result ≡ fold c.fixed_residual-r.result
-  folded = c.fold-f.ensures ∙ ap fold (to_z-of_z (record { sfits = c.fixed_residual-r.type-inv }))
+  folded = c.fold-f.ensures ∙ ap fold (to_z-of_z (record { sfits = c.fixed_residual-r.type_inv }))
 
 pub add_quotients-requires : goal.add_quotients-requires
 add_quotients-requires c =

@@ -1,27 +1,20 @@
 -- `predict_order_2` meets its contract: two products, each exact. Assumes nothing.
-use Prim.Native.Nat.{ℕ}
 use native.Mathlib.Omega.{arith}
-use mathlib.Core.List.{List, [], ◌∷◌}
 use borrow.Author.Rules.{rules}
-use lib.IntN.{ℤ, negsuc}
 use Rattle.rfc9639.specs.Prediction.{fixed_coefficients}
-use Rattle.signed.proofs.SignCases.{bits64}
 use Rattle.subframe_samples.specs.Sources.{stored_by}
-use Rattle.subframe_samples.proofs.Predictions.{PredictionSoFar, begin, step, room, end}
+use Rattle.subframe_samples.proofs.Predictions.{begin, step, room, end}
 use Rattle.subframe_samples.proofs.predict.predict_order_2.Goals as goal
 
-abbrev Products : goal.Start → List ℤ → ℕ → ℤ → Type 0
-Products s rest k r = PredictionSoFar 2 rest (stored_by s.args.source s.args.samples.now) s.args.i k (bits64 r)
-
-one : (c : goal.After-add_product-one) → Products c (negsuc 0 ∷ []) 1 c.add_product-one.result
-unfolding fixed_coefficients
-one c = step (begin 2 _ _) (omega arith) (omega arith) (record { sfits = c.add_product-one.type-inv }) c.add_product-one.ensures
-
 pub add_product-requires : goal.add_product-requires
-add_product-requires c = (search rules, room (one c) (omega arith), search rules)
-
-two : (c : goal.After-add_product) → Products c [] 2 c.add_product.result
-two c = step (one c) (omega arith) (omega arith) (record { sfits = c.add_product.type-inv }) c.add_product.ensures
+unfolding fixed_coefficients
+add_product-requires c =
+    let one = step (begin 2 (stored_by c.args.source c.args.samples.now) c.args.i) (omega arith) (omega arith) (record { sfits = c.add_product-one.type_inv }) c.add_product-one.ensures in
+    (search rules, room one (omega arith), search rules)
 
 pub returns : goal.returns
-returns c = end (two c) (omega arith)
+unfolding fixed_coefficients
+returns c =
+    let one = step (begin 2 (stored_by c.args.source c.args.samples.now) c.args.i) (omega arith) (omega arith) (record { sfits = c.add_product-one.type_inv }) c.add_product-one.ensures in
+    let two = step one (omega arith) (omega arith) (record { sfits = c.add_product.type_inv }) c.add_product.ensures in
+    end two (omega arith)

@@ -1,6 +1,6 @@
 -- `mid` meets its contract: the sum is exact at 64 bits. Assumes nothing.
 use mathlib.Core.Path.{ap, ◌∙◌}
-use borrow.Author.Rules.{rules}
+use mir.Syntax.{w64}
 use mir.Facts.{to_z-of_z}
 use Rattle.rfc9639.specs.Integers.{shift_down}
 use Rattle.rfc9639.specs.Write.{mid_of}
@@ -20,4 +20,4 @@ overflow_add-left c = sum_fits_64 c.ranges.left c.ranges.right
 pub returns : goal.returns
 unfolding mid_of
 returns c =
-    to_z-of_z (record { sfits = c.half.type-inv }) ∙ c.half.ensures ∙ ap (shift_down 1) (sum-exact c.ranges.left c.ranges.right)
+    to_z-of_z {w = w64} (record { sfits = c.half.type_inv }) ∙ c.half.ensures ∙ ap (shift_down 1) (sum-exact c.ranges.left c.ranges.right)

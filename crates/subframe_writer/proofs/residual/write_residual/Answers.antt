@@ -8,7 +8,5 @@ use Rattle.subframe_writer.proofs.residual.write_residual.Goals as goal
 pub returns : goal.returns
 unfolding residual_bits
 returns c =
-    let w4 = c in let w3 = w4.before.before.before.before in let w2 = w3.before.before.before.before in
-    let w1 = w2.before.before.before.before in
-    let wrote = wrote_after (wrote_after (wrote-once (binary-bits_of 2 0) w1.write-bits.ensures) (binary-bits_of 4 0) w2.write-bits2.ensures) (binary-bits_of 4 _) w3.write-bits3.ensures in
-    inked_then wrote _ w4.write-rices.ensures
+    let wrote = wrote_after (wrote_after (wrote-once (binary-bits_of 2 0) c.write_bits-after_method.ensures) (binary-bits_of 4 0) c.write_bits-after_order.ensures) (binary-bits_of 4 _) c.write_bits-after_parameter.ensures in
+    inked_then wrote _ c.write_rices.ensures

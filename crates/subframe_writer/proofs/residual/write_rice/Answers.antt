@@ -7,6 +7,5 @@ use Rattle.subframe_writer.proofs.residual.write_rice.Goals as goal
 
 pub returns : goal.returns
 returns c =
-    let b = c in let u = b.before.before.before.before in let q = u.before in let f = q.before.before in let s = f.before.before in
-    inked_as _ _ (rice_is s.args.k s.ranges.r f.fold.ensures q.shift-right.ensures)
-    (inked_then (wrote-once (record { bits = bits-unary _ }) u.write-unary.ensures) _ b.write-bits.ensures)
+    inked_as _ _ (rice_is c.args.k c.ranges.r c.fold-folded.ensures c.shift_right.ensures)
+    (inked_then (wrote-once (record { bits = bits-unary _ }) c.write_unary-p.ensures) _ c.write_bits.ensures)

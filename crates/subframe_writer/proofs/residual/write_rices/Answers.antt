@@ -4,6 +4,7 @@ use native.Mathlib.Omega.{arith}
 use mathlib.Core.Path.{◌∙◌}
 use borrow.Author.Rules.{rules}
 use lib.IntN.{pos}
+use mir.Syntax.{w64}
 use mir.Facts.{to_z-of_z}
 use Rattle.rfc9639.specs.SubframeCoding.{rice_bits, fixed_residuals}
 use Rattle.subframe_samples.specs.Sources.{stored_by}
@@ -17,9 +18,9 @@ loop-j-init c = begin _ _
 
 pub loop-j-preserved : goal.loop-j-preserved
 loop-j-preserved c =
-    let w = c in let x = w.before in let l = x.before.before.before in
-    step l.loop.invariant (pos 0) (rw length-fixed_residuals (omega arith)) (to_z-of_z (record { sfits = x.fixed-residual.type-inv }) ∙ x.fixed-residual.ensures.0) (bits-rice _ _)
-    w.write-rice.ensures
+    step c.loop-j.invariant (pos 0) (rw length-fixed_residuals (omega arith))
+    (to_z-of_z {w = w64} (record { sfits = c.fixed_residual.type_inv }) ∙ c.fixed_residual.ensures.0) (bits-rice _ _)
+    c.write_rice-p.ensures
 
 pub returns : goal.returns
 returns c = end c.loop-j.invariant (rw length-fixed_residuals (search rules))
