@@ -1,6 +1,6 @@
 -- `decode_equal_partitions`: each turn decodes one partition into its part of the slice (Parted). Assumes nothing.
 use native.Mathlib.Omega.{arith}
-use mathlib.Core.Path.{sym}
+use mathlib.Core.Path.{sym, ◌∙◌}
 use borrow.Author.Rules.{rules}
 use borrow.Author.Tests.{not-true, not-false}
 use Rattle.reading.proofs.ByteRuns.{inside_in, run_at-out}
