@@ -1,7 +1,6 @@
 -- `code_at_top`: without the first one, the shifted word is the remainder. Assumes nothing.
 use native.Mathlib.Omega.{arith}
 use mathlib.Core.Path.{ap, ◌∙◌}
-use borrow.Author.Rules.{rules}
 use mir.Syntax.{w32}
 use mir.Facts.{to_z-of_z}
 use Rattle.rfc9639.specs.Residual.{folded, unfolded}
