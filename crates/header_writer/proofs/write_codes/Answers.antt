@@ -10,9 +10,5 @@ use Rattle.header_writer.proofs.write_codes.Goals as goal
 pub returns : goal.returns
 unfolding code_bits sync_to_rate_bits
 returns c =
-    let w4 = c in
-    let w3 = w4.before.before.before.before in
-    let w2 = w3.before.before.before.before.before in
-    let w1 = w2.before.before.before.before.before in
-    let wrote = wrote-once (sync_to_rate-binary w1.before.before.before.args.set) w1.write-sync-to-rate.ensures in
-    rw (← w3.before.bits-code.ensures) (inked_then (wrote_after (wrote_after wrote (binary-bits_of 4 _) w2.write-bits.ensures) (binary-bits_of 3 _) w3.write-bits2.ensures) _ w4.write-bits3.ensures)
+    let wrote = wrote-once (sync_to_rate-binary c.args.set) c.write_sync_to_rate-p.ensures in
+    rw (← c.bits_code.ensures) (inked_then (wrote_after (wrote_after wrote (binary-bits_of 4 _) c.write_bits-q.ensures) (binary-bits_of 3 _) c.write_bits-r.ensures) _ c.write_bits.ensures)

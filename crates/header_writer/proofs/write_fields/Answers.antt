@@ -8,8 +8,5 @@ use Rattle.header_writer.proofs.write_fields.Goals as goal
 pub returns : goal.returns
 unfolding field_bits
 returns c =
-    let size = c in
-    let number = size.before.before.before.before in
-    let codes = number.before.before.before.before in
-    let wrote = wrote-once (bits-codes _) codes.write-codes.ensures in
-    inked_then (wrote_after wrote (bits-number _) number.write-number.ensures) _ size.write-size.ensures
+    let wrote = wrote-once (bits-codes _) c.write_codes-p.ensures in
+    inked_then (wrote_after wrote (bits-number _) c.write_number-q.ensures) _ c.write_size.ensures

@@ -3,6 +3,4 @@ use borrow.Author.Rules.{rules}
 use Rattle.header_writer.proofs.write_size.Goals as goal
 
 pub returns : goal.returns
-returns c =
-    let w = c in
-    rw (w.before.before.size-width.ensures, ← w.before.saturating-sub.ensures) w.write-bits.ensures
+returns c = rw (c.size_width.ensures, ← c.saturating_sub.ensures) c.write_bits.ensures

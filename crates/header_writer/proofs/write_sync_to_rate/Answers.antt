@@ -9,9 +9,5 @@ use Rattle.header_writer.proofs.write_sync_to_rate.Goals as goal
 pub returns : goal.returns
 unfolding sync_to_rate_bits
 returns c =
-    let w4 = c in
-    let w3 = w4.before.before.before.before in
-    let w2 = w3.before.before.before.before.before in
-    let w1 = w2.before.before.before.before.before in
-    let wrote = wrote-once (binary-bits_of 15 sync_code) (rw w1.before.start.ensures at w1.write-bits.ensures) in
-    rw (← w3.before.size-code.ensures) (inked_then (wrote_after (wrote_after wrote (binary-bits_of 1 _) w2.write-bits2.ensures) (binary-bits_of 4 _) w3.write-bits3.ensures) _ w4.write-bits4.ensures)
+    let wrote = wrote-once (binary-bits_of 15 sync_code) (rw c.start.ensures at c.write_bits-p.ensures) in
+    rw (← c.size_code.ensures) (inked_then (wrote_after (wrote_after wrote (binary-bits_of 1 _) c.write_bits-q.ensures) (binary-bits_of 4 _) c.write_bits-r.ensures) _ c.write_bits.ensures)

@@ -1,9 +1,7 @@
 -- `choose` meets its contract: a turn for each order (Judged). Assumes nothing.
 use Prim.Native.Nat.{◌-◌}
-use native.Mathlib.Omega.{arith}
-use borrow.Author.Rules.{rules}
 use Rattle.subframe_samples.specs.Sources.{stored_by}
-use Rattle.subframe_choice.proofs.OrderChoice.{Judged, begin, step, end}
+use Rattle.subframe_choice.proofs.OrderChoice.{Judged}
 use Rattle.subframe_choice.proofs.choose.Given as goal
 
 abbrev pub invariant-loop-order : goal.invariant-loop-order

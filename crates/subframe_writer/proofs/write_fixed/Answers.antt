@@ -1,5 +1,4 @@
 -- `write_fixed` meets its contract: the warm-up, then the residual. Assumes nothing.
-use borrow.Author.Rules.{rules}
 use Rattle.reading.proofs.NumbersAsBits.{binary_append}
 use Rattle.rfc9639.specs.SubframeCoding.{coded_as}
 use Rattle.rfc9639.proofs.FrameBits.{bits-subframe_header_bits, bits-plain}

@@ -1,5 +1,4 @@
 -- `write_head` meets its contract, field by field. Assumes nothing.
-use borrow.Author.Rules.{rules}
 use Rattle.reading.proofs.NumbersAsBits.{binary-bits_of}
 use Rattle.rfc9639.specs.SubframeCoding.{subframe_header_bits}
 use Rattle.bit_writer.proofs.ConsecutiveWrites.{wrote-once, wrote_after, inked_then}

@@ -1,5 +1,4 @@
 -- `write_head_and_plain` meets its contract: the header, then samples. Assumes nothing.
-use borrow.Author.Rules.{rules}
 use Rattle.rfc9639.proofs.FrameBits.{bits-subframe_header_bits}
 use Rattle.bit_writer.proofs.ConsecutiveWrites.{wrote-once, inked_then}
 use Rattle.subframe_writer.proofs.write_head_and_plain.Goals as goal

@@ -1,10 +1,9 @@
 -- `write_plain` meets its contract: a turn for each sample (Rows). Assumes nothing.
-use Prim.Native.Nat.{◌-◌}
 use native.Mathlib.Omega.{arith}
 use mathlib.Core.Path.{ap, sym, ◌∙◌}
 use borrow.Author.Rules.{rules}
 use lib.IntN.{pos}
-use lib.ListN.{take, length-take}
+use lib.ListN.{length-take}
 use lib.Seq.{get_or-take}
 use mir.Syntax.{w64}
 use mir.Facts.{to_z-of_z}
@@ -13,9 +12,8 @@ use Rattle.reading.proofs.NumbersAsBits.{binary-bits_of}
 use Rattle.rfc9639.specs.SubframeCoding.{plain}
 use Rattle.subframe_samples.specs.Sources.{stored_by}
 use Rattle.bit_writer.specs.PenWrites.{inked}
-use Rattle.bit_writer.proofs.RowLoops.{Unwritten, begin, step, end}
+use Rattle.bit_writer.proofs.RowLoops.{begin, step, end}
 use Rattle.signed.proofs.SignExtension.{low_bits-low}
-use Rattle.subframe_writer.proofs.SubframePieces.{sample_bits}
 use Rattle.subframe_writer.proofs.write_plain.Goals as goal
 
 pub loop-i-init : goal.loop-i-init

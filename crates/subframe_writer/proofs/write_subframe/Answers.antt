@@ -1,5 +1,4 @@
 -- `write_subframe` meets its contract, way by way. Assumes nothing.
-use borrow.Author.Rules.{rules}
 use native.Mathlib.Omega.{arith}
 use mathlib.Core.Path.{refl, sym, ◌∙◌}
 use Rattle.subframe_samples.specs.Sources.{stored_by}

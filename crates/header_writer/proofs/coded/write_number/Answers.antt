@@ -6,6 +6,4 @@ use Rattle.header_writer.proofs.coded.write_number.Goals as goal
 
 pub returns : goal.returns
 returns c =
-    let w = c in
-    let v = w.before.before.before.before in
-    rw v.before.before.form_of.ensures.0 (w.write-followers.ensures ∙ byte-first _ _ _ _ v.write-bits.ensures)
+    rw c.form_of-form.ensures.0 (c.write_followers.ensures ∙ byte-first _ _ _ _ c.write_bits-p.ensures)

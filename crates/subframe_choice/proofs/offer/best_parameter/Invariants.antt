@@ -1,10 +1,6 @@
 -- `best_parameter` meets its contract: a turn for each parameter (Offered). Assumes nothing.
-use Prim.Native.Nat.{◌+◌, ◌-◌, ◌*◌, ◌^◌, ◌≤◌, ◌<◌}
-use native.Mathlib.Omega.{arith}
-use borrow.Author.Rules.{rules}
-use lib.ListN.{get_or}
-use Rattle.number.proofs.ProductSums.{product_at_most}
-use Rattle.subframe_choice.proofs.ParameterChoice.{Offered, begin, step, end}
+use Prim.Native.Nat.{◌-◌}
+use Rattle.subframe_choice.proofs.ParameterChoice.{Offered}
 use Rattle.subframe_choice.proofs.offer.best_parameter.Given as goal
 
 abbrev pub invariant-loop-k : goal.invariant-loop-k

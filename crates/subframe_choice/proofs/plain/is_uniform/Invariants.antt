@@ -1,12 +1,7 @@
 -- `is_uniform` meets its contract: a turn for each sample after the first (Alike). Assumes nothing.
 use Prim.Native.Nat.{◌-◌}
-use native.Mathlib.Omega.{arith}
-use mathlib.Core.Path.{ap, sym, ◌∙◌}
-use borrow.Author.Rules.{rules}
-use mir.Syntax.{w64}
-use mir.Val.{of_z}
 use Rattle.subframe_samples.specs.Sources.{stored_by}
-use Rattle.subframe_choice.proofs.EqualSamples.{equal_by_bits, Alike, begin, step, one_differs, end}
+use Rattle.subframe_choice.proofs.EqualSamples.{Alike}
 use Rattle.subframe_choice.proofs.plain.is_uniform.Given as goal
 
 abbrev pub invariant-loop-i : goal.invariant-loop-i

@@ -1,8 +1,6 @@
 -- `add_quotients` meets its contract: a turn for each sum (Joining). Assumes nothing.
 use Prim.Native.Nat.{◌-◌}
-use native.Mathlib.Omega.{arith}
-use borrow.Author.Rules.{rules}
-use Rattle.subframe_choice.proofs.QuotientSums.{QuotientsAdded, begin, fits, step, end}
+use Rattle.subframe_choice.proofs.QuotientSums.{QuotientsAdded}
 use Rattle.subframe_choice.proofs.tally.add_quotients.Given as goal
 
 abbrev pub invariant-loop-k : goal.invariant-loop-k

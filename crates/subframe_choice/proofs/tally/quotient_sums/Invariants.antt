@@ -1,13 +1,8 @@
 -- `quotient_sums` meets its contract: a turn for each residual (Tallied). Assumes nothing.
-use Prim.Native.Nat.{◌-◌, ◌^◌, ◌<◌}
-use native.Mathlib.Omega.{arith}
-use mathlib.Core.Path.{◌≡◌, ap, ◌∙◌}
-use borrow.Author.Rules.{rules}
-use lib.ListN.{length}
-use mir.Facts.{to_z-of_z}
-use Rattle.rfc9639.specs.SubframeCoding.{fold, fixed_residuals}
+use Prim.Native.Nat.{◌-◌}
+use Rattle.rfc9639.specs.SubframeCoding.{fixed_residuals}
 use Rattle.subframe_samples.specs.Sources.{stored_by}
-use Rattle.subframe_choice.proofs.QuotientSums.{Tallied, begin-tally, long, under, folded-small, step-tally, end-tally}
+use Rattle.subframe_choice.proofs.QuotientSums.{Tallied}
 use Rattle.subframe_choice.proofs.tally.quotient_sums.Given as goal
 
 abbrev pub invariant-loop-j : goal.invariant-loop-j

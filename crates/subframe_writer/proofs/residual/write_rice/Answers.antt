@@ -1,5 +1,4 @@
 -- `write_rice` meets its contract: the quotient, then the remainder. Assumes nothing.
-use borrow.Author.Rules.{rules}
 use Rattle.reading.proofs.NumbersAsBits.{bits-unary}
 use Rattle.bit_writer.proofs.ConsecutiveWrites.{inked_as, wrote-once, inked_then}
 use Rattle.subframe_writer.proofs.SubframePieces.{rice_is}

@@ -1,15 +1,8 @@
 -- `write_rices` meets its contract: a turn for each residual (Rows). Assumes nothing.
 use Prim.Native.Nat.{◌-◌}
-use native.Mathlib.Omega.{arith}
-use mathlib.Core.Path.{◌∙◌}
-use borrow.Author.Rules.{rules}
-use lib.IntN.{pos}
-use mir.Facts.{to_z-of_z}
 use Rattle.rfc9639.specs.SubframeCoding.{rice_bits, fixed_residuals}
 use Rattle.subframe_samples.specs.Sources.{stored_by}
-use Rattle.rfc9639.proofs.Lengths.{length-fixed_residuals}
-use Rattle.rfc9639.proofs.FrameBits.{bits-rice}
-use Rattle.bit_writer.proofs.RowLoops.{Unwritten, begin, step, end}
+use Rattle.bit_writer.proofs.RowLoops.{Unwritten}
 use Rattle.subframe_writer.proofs.residual.write_rices.Given as goal
 
 abbrev pub invariant-loop-j : goal.invariant-loop-j
