@@ -1,5 +1,5 @@
 -- `bits_one_by_one`: one bit a turn. Assumes nothing.
-use Rattle.std.proofs.Common.{◌<◌, rules}
+use Rattle.std.proofs.Common.{◌<◌}
 use Rattle.leaf_test.proofs.bit_by_bit.bits_one_by_one.Given as goal
 
 abbrev pub invariant-loop-left : goal.invariant-loop-left

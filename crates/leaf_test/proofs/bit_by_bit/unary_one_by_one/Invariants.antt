@@ -1,5 +1,5 @@
 -- `unary_one_by_one`: one bit a turn. Assumes nothing.
-use Rattle.std.proofs.Common.{◌+◌, ◌-◌, ◌*◌, ◌<◌, length, rules}
+use Rattle.std.proofs.Common.{◌+◌, ◌-◌, ◌*◌, ◌<◌, length}
 use Rattle.leaf_test.proofs.bit_by_bit.unary_one_by_one.Given as goal
 
 abbrev pub invariant-loop-byte : goal.invariant-loop-byte

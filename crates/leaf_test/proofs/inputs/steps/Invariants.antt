@@ -1,5 +1,5 @@
 -- `steps`: one step a turn. Assumes nothing.
-use Rattle.std.proofs.Common.{◌-◌, ◌≤◌, length, rules}
+use Rattle.std.proofs.Common.{◌-◌, ◌≤◌, length}
 use Rattle.leaf_test.proofs.inputs.steps.Given as goal
 
 abbrev pub invariant-loop-i : goal.invariant-loop-i

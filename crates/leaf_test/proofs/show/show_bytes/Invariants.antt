@@ -1,5 +1,5 @@
 -- `bytes`: one byte a turn. Assumes nothing.
-use Rattle.std.proofs.Common.{◌-◌, ◌≤◌, length, rules}
+use Rattle.std.proofs.Common.{◌-◌, ◌≤◌, length}
 use Rattle.leaf_test.proofs.show.show_bytes.Given as goal
 
 abbrev pub invariant-loop-i : goal.invariant-loop-i

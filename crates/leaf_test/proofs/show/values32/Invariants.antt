@@ -1,5 +1,5 @@
 -- `values32`: one number a turn. Assumes nothing.
-use Rattle.std.proofs.Common.{◌-◌, ◌≤◌, length, rules}
+use Rattle.std.proofs.Common.{◌-◌, ◌≤◌, length}
 use Rattle.leaf_test.proofs.show.values32.Given as goal
 
 abbrev pub invariant-loop-i : goal.invariant-loop-i

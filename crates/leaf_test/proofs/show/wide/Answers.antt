@@ -1,5 +1,4 @@
 -- `wide`: a 32-bit number fits 64 bits. Assumes nothing.
-use Rattle.std.proofs.Common.{rules}
 use Rattle.rfc9639.proofs.MachineIntegers.{widen_fits}
 use Rattle.leaf_test.proofs.show.wide.Goals as goal
 

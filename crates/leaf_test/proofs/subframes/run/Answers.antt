@@ -1,5 +1,5 @@
 -- `run`: the first n samples of the array are lent. Assumes nothing.
-use Rattle.std.proofs.Common.{replicate, pos, sym, arith, length-take-le, rules}
+use Rattle.std.proofs.Common.{replicate, pos, sym, arith, length-take-le}
 use Rattle.leaf_test.proofs.subframes.run.Goals as goal
 
 pub slice_bounds-line-end : goal.slice_bounds-line-end
