@@ -1,5 +1,4 @@
 -- `sample_bytes` meets its contract: the four bytes of the low 32 bits. Assumes nothing.
-use borrow.Author.Rules.{rules}
 use mathlib.Core.Path.{ap, ◌∙◌}
 use Rattle.rfc9639.proofs.MachineIntegers.{widened, widen_fits}
 use Rattle.signed.specs.Extend.{low_bits}
