@@ -11,7 +11,7 @@ use lib.IntN.{ℤ}
 use lib.ListN.{replicate}
 use lib.Pow.{pow_pos, pow_mono}
 use Rattle.reading.specs.declared.Place.{Place}
-use Rattle.reading.specs.Readers.{Ask, ◌>>=◌, ◌>>◌, bits, require, each}
+use Rattle.reading.specs.Readers.{Ask, ◌>>◌, bits, require, each}
 use Rattle.reading.specs.Places.{At, got_at, refused_at, short_at, run_at}
 use Rattle.reading.proofs.ByteRuns.{In, stays_in, bind_got_lem, bind_short, require_holds, require_fails, bits_below}
 use Rattle.input.specs.declared.Bits.{Bits}

@@ -1,8 +1,7 @@
 -- The MD5, as the definition reads it. Assumes nothing.
 use borrow.Author.Rules.{rules}
-use mathlib.Core.Path.{◌≡◌, sym, ◌∙◌}
+use mathlib.Core.Path.{sym, ◌∙◌}
 use Rattle.reading.specs.Readers.{bits}
-use Rattle.reading.specs.Places.{got_at, run_at}
 use Rattle.reading.proofs.ByteRuns.{bind_got_lem, bind_short}
 use Rattle.reading.proofs.ReaderSteps.{then_done}
 use Rattle.input.proofs.Callers.{read-got, read_short}
@@ -11,22 +10,18 @@ use Rattle.stream.proofs.read_md5.Goals as goal
 
 pub returns-in_default : goal.returns-in_default
 unfolding md5
-returns-in_default c = sym (bind_short (bits 64) _ _ _ (read_short 64 _ _ (search rules) c.read_bits_lem.ensures c.enum_told-1.given.1))
-
-high_is : (c : goal.In-Value-2)
-    → let a = c.args in run_at (bits 64) a.s.now a.at ≡ got_at c.first-1.given.0.0 c.first-1.given.0.1.0
-high_is c = read-got 64 _ _ (search rules) c.read_bits_lem.ensures c.first-1.given.1
+returns-in_default c = sym (bind_short (bits 64) _ _ _ (read_short 64 _ _ (search rules) c.read_bits-first.ensures c.in_default.is))
 
 pub returns-in_default-second : goal.returns-in_default-second
 unfolding md5
 returns-in_default-second c =
     sym
-    (bind_got_lem (bits 64) _ _ _ (high_is c)
-    ∙ bind_short (bits 64) _ _ _ (read_short 64 _ _ (search rules) c.read_bits-second.ensures c.enum_told-in_default-second-1.given.1))
+    (bind_got_lem (bits 64) _ _ _ (read-got 64 _ _ (search rules) c.read_bits-first.ensures c.in-Value.is)
+    ∙ bind_short (bits 64) _ _ _ (read_short 64 _ _ (search rules) c.read_bits-second.ensures c.in_default-second.is))
 
 pub returns : goal.returns
 unfolding md5
 returns c =
     sym
-    (bind_got_lem (bits 64) _ _ _ (high_is c)
-    ∙ then_done (bits 64) _ _ _ (read-got 64 _ _ (search rules) c.read_bits-second.ensures c.second-1.given.1))
+    (bind_got_lem (bits 64) _ _ _ (read-got 64 _ _ (search rules) c.read_bits-first.ensures c.in-Value.is)
+    ∙ then_done (bits 64) _ _ _ (read-got 64 _ _ (search rules) c.read_bits-second.ensures c.in-Value-second.is))

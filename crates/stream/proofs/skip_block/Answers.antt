@@ -1,7 +1,8 @@
 -- One block skipped, as the definition reads it. Assumes nothing.
-use Prim.Native.Nat.{◌^◌, ◌<◌}
-use borrow.Author.Rules.{rules}
-use borrow.Author.Tests.{not-true, not-false}
+use Prim.Native.Nat.{ℕ, ◌^◌, ◌<◌}
+use mathlib.Core.Bool.{Bool}
+use mathlib.Core.List.{List}
+use Rattle.reading.specs.declared.Place.{Place}
 use native.Mathlib.Omega.{arith}
 use mathlib.Core.Path.{◌≡◌, sym, subst}
 use Rattle.reading.specs.Places.{got_at, run_at}
@@ -15,22 +16,18 @@ use Rattle.stream.specs.Answers.{head_at}
 use Rattle.stream.proofs.SkippedBlocks.{block-there, block-cut}
 use Rattle.stream.proofs.skip_block.Goals as goal
 
-head_is : (c : goal.In-Head-2)
-    → let a = c.args in run_at block_head a.s.now a.at ≡ got_at (c.head-1.given.0.0, c.head-1.given.0.1.0) c.head-1.given.0.1.1.0
-head_is c = answer_is head_at c.read_block_head-head.ensures c.head-1.given.1
-
-size_few : (c : goal.In-Head-2) → c.head-1.given.0.1.0 < 2 ^ 24
-size_few c = subst (Meets StreamRefusal (λ x. x.1 < 2 ^ 24)) (head_is c) (holds_at StreamRefusal _ _ _ head_holds)
+size_few : (s : List ℕ) (at : Place) {x : Bool × ℕ} {p : Place} → run_at block_head s at ≡ got_at x p → x.1 < 2 ^ 24
+size_few s at e = subst (Meets StreamRefusal (λ x. x.1 < 2 ^ 24)) e (holds_at StreamRefusal _ _ _ head_holds)
 
 pub overflow_add-end : goal.overflow_add-end
-overflow_add-end c = let h = c in omega (arith, size_few h, (stays_in block_head _ _ (head_is h)).end, h.before.before.before.before.well-formed.0)
+overflow_add-end c = let e = answer_is head_at c.read_block_head-head.ensures c.in-Head.is in omega (arith, size_few _ _ e, (stays_in block_head _ _ e).end, c.well_formed.0)
 
 pub returns-then-not-is_inside : goal.returns-then-not-is_inside
-returns-then-not-is_inside c = let h = c in sym (block-cut _ _ (head_is h) (cc (not-true c.is_inside.result c.if-not-is_inside.true)))
+returns-then-not-is_inside c = sym (block-cut _ _ (answer_is head_at c.read_block_head-head.ensures c.in-Head.is) (cc))
 
 pub returns-else-not-is_inside : goal.returns-else-not-is_inside
-returns-else-not-is_inside c = let h = c in sym (block-there _ _ (head_is h) (cc (not-false c.is_inside.result c.if-not-is_inside.false)))
+returns-else-not-is_inside c = sym (block-there _ _ (answer_is head_at c.read_block_head-head.ensures c.in-Head.is) (cc))
 
 pub returns-in-Refused : goal.returns-in-Refused
 unfolding skipped_block
-returns-in-Refused c = let h = c in sym (bind_refusal block_head _ _ _ h.head2.given.0.0 (answer_is head_at h.before.before.read-block-head.ensures h.head2.given.1))
+returns-in-Refused c = sym (bind_refusal block_head _ _ _ c.in-Refused.e (answer_is head_at c.read_block_head-head.ensures c.in-Refused.is))

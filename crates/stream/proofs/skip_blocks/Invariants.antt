@@ -1,14 +1,9 @@
 -- All blocks up to the last one, as the definition reads them; each turn of the loop is nearer to the end of the input.
 -- Assumes nothing.
 use Prim.Native.Nat.{◌-◌, ◌*◌}
-use borrow.Author.Rules.{rules}
-use mathlib.Core.Path.{◌≡◌, sym}
 use lib.ListN.{length}
-use Rattle.reading.specs.Places.{position, got_at, run_at}
-use Rattle.reading.proofs.ReaderSteps.{answer_is}
-use Rattle.rfc9639.specs.StreamHeader.{skipped_block}
-use Rattle.stream.specs.Private.{skipped_at}
-use Rattle.stream.proofs.SkippedBlocks.{BlocksLeft, begin, block_refused, last_block, step, less}
+use Rattle.reading.specs.Places.{position}
+use Rattle.stream.proofs.SkippedBlocks.{BlocksLeft}
 use Rattle.stream.proofs.skip_blocks.Given as goal
 
 abbrev pub invariant-loop-last : goal.invariant-loop-last

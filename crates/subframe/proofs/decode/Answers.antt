@@ -1,6 +1,5 @@
 -- `decode`: the samples, or zeros on a refusal. Assumes nothing.
 use mathlib.Core.Path.{ap, ◌∙◌}
-use borrow.Author.Rules.{rules}
 use lib.IntN.{pos}
 use lib.ListN.{length, replicate}
 use Rattle.subframe.proofs.DecodedSubframes.{left-done, left-refused}

@@ -1,10 +1,8 @@
 -- `decode_after_header`: the order checked, the samples by their kind, the wasted bits put back. Assumes nothing.
 use native.Mathlib.Omega.{arith}
-use mathlib.Core.Path.{sym}
-use borrow.Author.Rules.{rules}
-use borrow.Author.Tests.{not-true, not-false}
+use mathlib.Core.Path.{sym, ◌∙◌}
 use lib.ListN.{length}
-use Rattle.reading.proofs.ByteRuns.{In, inside_in, run_at-out}
+use Rattle.reading.proofs.ByteRuns.{inside_in, run_at-out}
 use Rattle.subframe.proofs.DecodedSubframes.{order_too_high, after-header_refused, after-header-done}
 use Rattle.subframe.proofs.decode_after_header.Goals as goal
 

@@ -3,7 +3,6 @@ use Prim.Native.Nat.{ℕ, ◌≤◌}
 use mathlib.Core.List.{List}
 use Rattle.reading.specs.declared.Place.{Place}
 use mathlib.Core.Path.{◌≡◌, ap, sym, ◌∙◌, subst}
-use borrow.Author.Rules.{rules}
 use lib.ListN.{length}
 use Rattle.reading.specs.Places.{run_at}
 use Rattle.rfc9639.specs.declared.SubframeType.{SubframeType}

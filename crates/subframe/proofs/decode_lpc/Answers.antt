@@ -1,13 +1,11 @@
 -- `decode_lpc`: the warm-up samples, the precision and the shift, then the rest. Assumes nothing.
 use Prim.Native.Nat.{ℕ}
 use native.Mathlib.Omega.{arith}
-use mathlib.Core.Path.{◌≡◌, ap₂, sym, ◌∙◌}
-use mathlib.Core.List.{List, ◌++◌}
-use borrow.Author.Rules.{rules}
+use mathlib.Core.Path.{ap₂, sym, ◌∙◌}
+use mathlib.Core.List.{List}
 use lib.IntN.{ℤ}
 use lib.ListN.{length, drop}
 use lib.Seq.{length-take-le}
-use Rattle.reading.specs.declared.Place.{Place}
 use Rattle.reading.specs.Readers.{Ask, ◌>>=◌, many}
 use Rattle.reading.specs.Places.{run_at}
 use Rattle.reading.proofs.ByteRuns.{bind_got_lem}

@@ -1,14 +1,12 @@
 -- `decode_lpc_after_shift`: the coefficients into an array, then prediction by them. Assumes nothing.
-use Prim.Native.Nat.{ℕ, ◌^◌, ◌≤◌}
+use Prim.Native.Nat.{ℕ, ◌≤◌}
 use native.Mathlib.Omega.{arith}
 use mathlib.Core.Path.{◌≡◌, refl, sym, ◌∙◌}
 use mathlib.Core.List.{List, ◌++◌}
-use borrow.Author.Rules.{rules}
 use lib.IntN.{ℤ, pos}
 use lib.ListN.{length, take, drop, replicate}
 use lib.Seq.{length-take-le}
 use Rattle.reading.specs.Readers.{Ask, done, ◌>>=◌, many}
-use Rattle.number.specs.Private.{Small}
 use Rattle.rfc9639.specs.Integers.{signed_bits}
 use Rattle.rfc9639.specs.Residual.{residual}
 use Rattle.rfc9639.specs.Prediction.{predict}

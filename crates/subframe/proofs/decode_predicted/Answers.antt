@@ -1,10 +1,7 @@
 -- `decode_predicted`: the residual into the rest of the block, then prediction in place. Assumes nothing.
 use mathlib.Core.Path.{◌∙◌}
-use mathlib.Core.List.{List}
-use borrow.Author.Rules.{rules}
-use lib.IntN.{ℤ}
 use lib.ListN.{length, take}
-use Rattle.reading.specs.Readers.{Ask, done}
+use Rattle.reading.specs.Readers.{done}
 use Rattle.rfc9639.specs.Residual.{residual}
 use Rattle.rfc9639.specs.Prediction.{predict}
 use Rattle.subframe.proofs.SliceParts.{passed_on, then_done}

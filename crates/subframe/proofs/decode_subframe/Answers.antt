@@ -1,7 +1,6 @@
 -- `decode_subframe`: a header and what follows it, for a width of at most 32. Assumes nothing.
 use native.Mathlib.Omega.{arith}
 use mathlib.Core.Path.{sym, ◌∙◌}
-use borrow.Author.Rules.{rules}
 use lib.ListN.{length}
 use Rattle.reading.proofs.ByteRuns.{bind_got_lem}
 use Rattle.error.proofs.Refusals.{bind_refusal}

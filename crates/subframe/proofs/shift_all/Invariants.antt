@@ -1,13 +1,7 @@
 -- `shift_all`: each turn shifts one number (Mapped). Assumes nothing.
-use Prim.Native.Nat.{◌+◌, ◌-◌}
-use native.Mathlib.Omega.{arith}
-use mathlib.Core.Logic.{⊎_elim}
-use mathlib.Core.Path.{sym, subst}
-use mathlib.Core.List.{List}
-use borrow.Author.Rules.{rules}
-use lib.IntN.{ℤ}
+use Prim.Native.Nat.{◌-◌}
 use lib.ListN.{length}
-use Rattle.subframe.proofs.DecodedSubframes.{Mapped, begin, turn, kept, end, shift_none}
+use Rattle.subframe.proofs.DecodedSubframes.{Mapped}
 use Rattle.rfc9639.specs.Integers.{shift_up}
 use Rattle.subframe.proofs.shift_all.Given as goal
 

@@ -1,8 +1,6 @@
 -- `read_kind`: the type and the wasted bits, as the definition reads them. Assumes nothing.
 use borrow.Author.Rules.{rules}
-use mathlib.Core.Path.{◌≡◌, sym, ap, ◌∙◌}
-use Rattle.reading.specs.Readers.{bits}
-use Rattle.reading.specs.Places.{got_at, run_at}
+use mathlib.Core.Path.{sym, ap, ◌∙◌}
 use Rattle.input.proofs.Callers.{read-got, read_short}
 use Rattle.subframe.specs.Private.{kind_ask, wasted_at}
 use Rattle.subframe.proofs.HeaderFields.{code-short, type_reserved, kind_got, kind_stops}

@@ -1,10 +1,7 @@
 -- `read_quantizer`: the precision and the shift, as the definition reads them. Assumes nothing.
-use Prim.Native.Nat.{◌<◌}
 use borrow.Author.Rules.{rules}
 use native.Mathlib.Omega.{arith}
-use mathlib.Core.Path.{◌≡◌, sym}
-use Rattle.reading.specs.Readers.{bits}
-use Rattle.reading.specs.Places.{got_at, run_at}
+use mathlib.Core.Path.{sym}
 use Rattle.reading.proofs.ByteRuns.{bits_below}
 use Rattle.input.proofs.Callers.{read-got, read_short}
 use Rattle.subframe.proofs.HeaderFields.{precision_short, precision_reserved, shift_short, shift_negative, quantization-known}

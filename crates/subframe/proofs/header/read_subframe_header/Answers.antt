@@ -1,8 +1,5 @@
 -- `read_subframe_header`: a header, as the definition reads it. Assumes nothing.
-use borrow.Author.Rules.{rules}
-use mathlib.Core.Path.{◌≡◌, sym, ◌∙◌}
-use Rattle.reading.specs.Readers.{bits}
-use Rattle.reading.specs.Places.{got_at, run_at}
+use mathlib.Core.Path.{sym, ◌∙◌}
 use Rattle.input.proofs.Callers.{bit_is}
 use Rattle.subframe.proofs.HeaderFields.{zero_bit-short, zero_bit-set, zero_bit_clear}
 use Rattle.subframe.proofs.header.read_subframe_header.Goals as goal

@@ -1,10 +1,5 @@
 -- `read_wasted`: the wasted bits, checked as the definition does. Assumes nothing.
-use Prim.Native.Nat.{ℕ}
-use borrow.Author.Rules.{rules}
-use mathlib.Core.Path.{◌≡◌, sym}
-use Rattle.reading.specs.Readers.{bits, zeros}
-use Rattle.reading.specs.Places.{got_at, run_at}
-use Rattle.input.specs.Answers.{count}
+use mathlib.Core.Path.{sym}
 use Rattle.input.proofs.Callers.{bit_is, unary-got, unary-short}
 use Rattle.subframe.proofs.HeaderFields.{flag-short, no_width_left, no_wasted_bits, unary-run-short, unary-run-too_long, unary-run-too_wide, unary-run-kept}
 use Rattle.subframe.proofs.header.read_wasted.Goals as goal

@@ -1,5 +1,4 @@
 -- `subframe_type`: a type by its code, test by test as in the definition. Assumes nothing.
-use borrow.Author.Rules.{rules}
 use borrow.Author.Tests.{eq-eqb, ne_eqb, lt-ltb, le-ltb, le-leb, lt-leb}
 use Rattle.rfc9639.specs.Subframe.{subframe_type}
 use Rattle.subframe.proofs.header.subframe_type.Goals as goal

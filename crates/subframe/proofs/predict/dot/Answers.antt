@@ -1,11 +1,9 @@
 -- `dot`: the products from j on are added up, and the sum is small enough (DotSoFar). Assumes nothing.
 use native.Mathlib.Omega.{arith}
 use mathlib.Core.Path.{refl}
-use mathlib.Core.List.{reverse}
 use borrow.Author.Rules.{rules}
-use lib.ListN.{take}
 use lib.Seq.{length-take-le}
-use Rattle.number.proofs.ProductSums.{DotSoFar, begin, room, end}
+use Rattle.number.proofs.ProductSums.{begin, room, end}
 use Rattle.subframe.proofs.PredictionSums.{mul_add-asks, turn}
 use mir.Syntax.{w64}
 use mir.Val.{of_z}

@@ -1,13 +1,9 @@
 -- `fixed_sum`: each step is exact at 64 bits (Exact), and the sum is that of the products. Assumes nothing.
-use Prim.Native.Nat.{◌+◌, ◌-◌, ◌^◌}
+use Prim.Native.Nat.{◌-◌}
 use native.Mathlib.Omega.{arith}
-use mathlib.Core.List.{List}
 use borrow.Author.Rules.{rules}
-use lib.IntN.{ℤ, pos, ◌-ℤ◌}
-use lib.ListN.{length, get_or}
-use mir.Syntax.{w32, w64}
-use mir.Val.{to_z, of_z}
-use Rattle.subframe.proofs.FixedSums.{Exact, ExactAt, exact_at, exact_multiple, exact-sum, exact_difference, exact-answer, fixed_sum_1, fixed_sum_2, fixed_sum_3}
+use lib.ListN.{length}
+use Rattle.subframe.proofs.FixedSums.{exact_at, exact_multiple, exact-sum, exact_difference, exact-answer, fixed_sum_1, fixed_sum_2, fixed_sum_3}
 use Rattle.subframe.proofs.predict.fixed_sum.Goals as goal
 
 pub overflow_cast-a : goal.overflow_cast-a

@@ -10,7 +10,7 @@ use mir.Val.{SFits}
 use mir.Facts.{to_z-of_z}
 use Rattle.rfc9639.specs.Prediction.{fixed_coefficients}
 use Rattle.subframe.proofs.PredictionSums.{fixed-row}
-use Rattle.subframe.proofs.PredictionInPlace.{Restored, begin, turn, end, resumed-predict}
+use Rattle.subframe.proofs.PredictionInPlace.{begin, turn, end, resumed-predict}
 use Rattle.subframe.proofs.predict.predict_fixed.Goals as goal
 
 as_many : (order : ℕ) → order ≤ 3 → length (fixed_coefficients order) ≡ order

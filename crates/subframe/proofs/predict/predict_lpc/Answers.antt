@@ -1,5 +1,4 @@
 -- `predict_lpc`: a fixed order by its coefficients, any other by their number. Assumes nothing.
-use borrow.Author.Rules.{rules}
 use Rattle.subframe.proofs.PredictionSums.{fixed-ask, fixed_promise}
 use Rattle.subframe.proofs.predict.predict_lpc.Goals as goal
 

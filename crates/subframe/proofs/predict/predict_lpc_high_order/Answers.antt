@@ -1,6 +1,5 @@
 -- `predict_lpc_high_order`: the coefficients are the first taps. Assumes nothing.
 use mathlib.Core.Path.{refl}
-use borrow.Author.Rules.{rules}
 use Rattle.subframe.proofs.PredictionSums.{taps_ask, taps_promise}
 use Rattle.subframe.proofs.predict.predict_lpc_high_order.Goals as goal
 

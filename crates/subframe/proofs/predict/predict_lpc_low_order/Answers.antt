@@ -1,7 +1,6 @@
 -- `predict_lpc_low_order`: the coefficients are the first taps. Assumes nothing.
 use native.Mathlib.Nat.{le_trans}
 use mathlib.Core.Path.{refl}
-use borrow.Author.Rules.{rules}
 use lib.Dec.{lit≤}
 use Rattle.subframe.proofs.PredictionSums.{taps_ask, taps_promise}
 use Rattle.subframe.proofs.predict.predict_lpc_low_order.Goals as goal

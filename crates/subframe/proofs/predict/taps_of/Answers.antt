@@ -1,13 +1,12 @@
 -- `taps_of`: after j turns the first j coefficients are stored (Padding). Assumes nothing.
-use Prim.Native.Nat.{◌-◌}
 use native.Mathlib.Omega.{arith}
 use borrow.Author.Rules.{rules}
 use lib.IntN.{pos}
-use lib.ListN.{length, get_or}
+use lib.ListN.{get_or}
 use mir.Syntax.{w32}
 use mir.Val.{SFits}
 use mir.Facts.{to_z-of_z}
-use Rattle.subframe.proofs.PredictionSums.{Padding, pad-begin, pad-step, pad-end}
+use Rattle.subframe.proofs.PredictionSums.{pad-begin, pad-step, pad-end}
 use Rattle.subframe.proofs.predict.taps_of.Goals as goal
 
 pub loop-j-init : goal.loop-j-init

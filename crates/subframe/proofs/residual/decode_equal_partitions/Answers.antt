@@ -1,11 +1,8 @@
 -- `decode_equal_partitions`: each turn decodes one partition into its part of the slice (Parted). Assumes nothing.
 use native.Mathlib.Omega.{arith}
-use mathlib.Core.Path.{sym}
-use borrow.Author.Rules.{rules}
-use borrow.Author.Tests.{not-true, not-false}
+use mathlib.Core.Path.{sym, ◌∙◌}
 use Rattle.reading.proofs.ByteRuns.{inside_in, run_at-out}
-use Rattle.rfc9639.specs.Residual.{partition}
-use Rattle.subframe.proofs.Partitions.{Parted, begin, room, part-keeps-length, step, stops, end}
+use Rattle.subframe.proofs.Partitions.{begin, room, part-keeps-length, step, stops, end}
 use Rattle.subframe.proofs.residual.decode_equal_partitions.Goals as goal
 
 pub returns-then-not-is_inside : goal.returns-then-not-is_inside

@@ -1,6 +1,5 @@
 -- `decode_escaped`: the width, then the residuals stored in it. Assumes nothing.
 use native.Mathlib.Omega.{arith}
-use borrow.Author.Rules.{rules}
 use Rattle.subframe.proofs.Partitions.{field_below, width_short, escaped_by_width}
 use Rattle.subframe.proofs.residual.decode_escaped.Goals as goal
 

@@ -1,6 +1,5 @@
 -- `decode_partition`: the parameter, then the residuals coded with it or stored as they are. Assumes nothing.
 use native.Mathlib.Omega.{arith}
-use borrow.Author.Rules.{rules}
 use lib.Pow.{pow_pos}
 use Rattle.subframe.proofs.Partitions.{parameter_count, parameter_short, field_below, partition-escaped, partition-coded}
 use Rattle.subframe.proofs.residual.decode_partition.Goals as goal

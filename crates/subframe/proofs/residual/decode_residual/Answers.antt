@@ -1,8 +1,6 @@
 -- `decode_residual`: the method and the order, the partition size checked, and the partitions. Assumes nothing.
-use Prim.Native.Nat.{◌<◌}
 use native.Mathlib.Omega.{arith}
 use mathlib.Core.Path.{◌∙◌}
-use borrow.Author.Rules.{rules}
 use Rattle.subframe.proofs.ResidualShapes.{partition_count_positive, sizes-sum, method_short, method_reserved, order-short, order_below, size_uneven, size-below-warm, partitions_read}
 use Rattle.subframe.proofs.residual.decode_residual.Goals as goal
 

@@ -1,14 +1,10 @@
 -- `decode_verbatim`: each turn stores one sample (Filling). Assumes nothing.
-use Prim.Native.Nat.{◌-◌}
 use native.Mathlib.Omega.{arith}
-use mathlib.Core.Path.{refl, sym}
+use mathlib.Core.Path.{refl, sym, ◌∙◌}
 use borrow.Author.Rules.{rules}
-use borrow.Author.Tests.{not-true, not-false}
-use lib.ListN.{length}
 use Rattle.reading.proofs.ByteRuns.{inside_in, run_at-out}
-use Rattle.rfc9639.specs.Integers.{signed_bits}
 use Rattle.subframe.specs.Private.{sample_read_at}
-use Rattle.subframe.proofs.FilledSlices.{Filling, begin, step, cut, end}
+use Rattle.subframe.proofs.FilledSlices.{begin, step, cut, end}
 use Rattle.subframe.proofs.residual.decode_verbatim.Goals as goal
 
 pub returns-then-not-is_inside : goal.returns-then-not-is_inside

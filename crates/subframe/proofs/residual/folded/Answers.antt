@@ -1,6 +1,5 @@
 -- `folded`: the quotient and the remainder as one number, which fits 64 bits. Assumes nothing.
 use native.Mathlib.Omega.{arith}
-use borrow.Author.Rules.{rules}
 use Rattle.rfc9639.specs.Residual.{folded}
 use Rattle.subframe.proofs.SampleReaders.{folded_fits}
 use Rattle.subframe.proofs.residual.folded.Goals as goal

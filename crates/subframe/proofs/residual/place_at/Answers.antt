@@ -1,6 +1,5 @@
 -- `place_at`: whole bytes of the bits go to the byte. Assumes nothing.
 use native.Mathlib.Omega.{arith}
-use borrow.Author.Rules.{rules}
 use Rattle.reading.proofs.ByteRuns.{place_is}
 use Rattle.subframe.proofs.residual.place_at.Goals as goal
 

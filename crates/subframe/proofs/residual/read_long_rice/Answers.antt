@@ -1,6 +1,5 @@
 -- `read_long_rice`: the quotient, the remainder, and the residual of both. Assumes nothing.
 use native.Mathlib.Omega.{arith}
-use borrow.Author.Rules.{rules}
 use Rattle.subframe.proofs.SampleReaders.{quotient_short, remainder_short, quotient_below, remainder_below, rice-got}
 use Rattle.subframe.proofs.residual.read_long_rice.Goals as goal
 

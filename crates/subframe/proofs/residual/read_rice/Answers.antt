@@ -2,7 +2,6 @@
 use native.Mathlib.Nat.{mod-lt, pos_of_ne-zero}
 use native.Mathlib.Omega.{arith}
 use mathlib.Core.Path.{refl}
-use borrow.Author.Rules.{rules}
 use lib.Pow.{pow_pos}
 use Rattle.reading.proofs.Words.{leading_most, first_one}
 use Rattle.subframe.proofs.RiceWords.{rice_in_word}

@@ -1,6 +1,5 @@
 -- `read_sample`: the bits that were read, sign-extended. Assumes nothing.
 use native.Mathlib.Omega.{arith}
-use borrow.Author.Rules.{rules}
 use Rattle.subframe.proofs.SampleReaders.{sample-short, sample-got}
 use Rattle.subframe.proofs.residual.read_sample.Goals as goal
 
