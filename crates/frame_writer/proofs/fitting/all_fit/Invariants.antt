@@ -5,7 +5,6 @@ use mathlib.Core.Path.{◌≡◌, refl, sym, ◌∙◌}
 use lib.ListN.{length, drop}
 use Rattle.rfc9639.specs.Write.{all_fit}
 use Rattle.frame_writer.proofs.SampleFit.{fit_fails, fit_next, fit-end}
-use borrow.Author.Tests.{not-true, not-false}
 use Rattle.frame_writer.proofs.fitting.all_fit.Given as goal
 
 abbrev pub invariant-loop-i : goal.invariant-loop-i

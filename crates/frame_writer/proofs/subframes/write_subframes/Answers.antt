@@ -15,12 +15,9 @@ loop-c-init c = (rw c.channels_of_code-count.ensures (channels_between _).1, ome
 
 pub loop-c-preserved : goal.loop-c-preserved
 loop-c-preserved c =
-    let w = c in let i = w.before.before.before in let l = i.before in let n = l.before in
-    let more : l.loop.c < channel_count (assignment n.before.before.args.set.channels) = omega (arith, n.channels-of-code.ensures) in
-    (l.loop.invariant.0, omega arith, lane-next _ _ _ _ l.loop.invariant.2 more (planned_at _ _ _ _ _ n.before.before.requires.1 _ _ more) w.write-lane.ensures)
-
-pub shape_of-out : goal.shape_of-out
-shape_of-out c = c.loop-c.invariant.2.long
+    let i = c.loop-c.invariant in
+    let more : c.loop-c.c < channel_count (assignment c.args.set.channels) = omega (arith, c.channels_of_code-count.ensures) in
+    (i.0, omega arith, lane-next _ _ _ _ i.2 more (planned_at _ _ _ _ _ c.requires.1 _ _ more) c.write_lane-p.ensures)
 
 pub returns : goal.returns
 unfolding subframes_bits
