@@ -35,10 +35,10 @@ returns-then-out-length c =
 
 pub write_planned-requires : goal.write_planned-requires
 write_planned-requires c = (
-      in_range_lem _ _ (sym c.is_allowed.ensures ∙ c.if-not-is_allowed.false),
-      c.plan_frame-plan.ensures.0,
-      rw (sym (c.frame_length-length.ensures ∙ length_of_parts _ _ c.plan_frame-plan.ensures.1)) c.if-out-length.false,
-    )
+  in_range_lem _ _ (sym c.is_allowed.ensures ∙ c.if-not-is_allowed.false),
+  c.plan_frame-plan.ensures.0,
+  rw (sym (c.frame_length-length.ensures ∙ length_of_parts _ _ c.plan_frame-plan.ensures.1)) c.if-out-length.false,
+)
 
 pub returns : goal.returns
 returns c =

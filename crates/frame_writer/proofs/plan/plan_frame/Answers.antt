@@ -20,9 +20,9 @@ overflow_add-bits c =
 
 pub loop-c-preserved : goal.loop-c-preserved
 loop-c-preserved c = (
-      step _ _ c.loop-c.invariant.0 c.loop-c-test.true _ c.choose_lane-choice.ensures,
-      counted-more _ _ _ _ c.loop-c.invariant.1 c.requires.1 c.requires.2 c.choose_lane-choice.ensures,
-    )
+  step _ _ c.loop-c.invariant.0 c.loop-c-test.true _ c.choose_lane-choice.ensures,
+  counted-more _ _ _ _ c.loop-c.invariant.1 c.requires.1 c.requires.2 c.choose_lane-choice.ensures,
+)
 
 pub returns : goal.returns
 returns c =
