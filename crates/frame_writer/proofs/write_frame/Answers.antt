@@ -1,13 +1,6 @@
 -- `write_frame` meets its contract: the three tests, and the frame. Assumes nothing.
 use native.Mathlib.Omega.{arith}
-use mathlib.Core.Path.{◌≡◌, sym, ◌∙◌}
-use mathlib.Core.Bool.{true}
-use borrow.Author.Rules.{rules}
-use borrow.Author.Tests.{not-true, not-false}
-use lib.ListN.{length}
-use Rattle.rfc9639.specs.declared.FrameSetting.{FrameSetting}
-use Rattle.rfc9639.specs.Write.{allowed, all_fit, frame_bytes}
-use Rattle.frame_writer.specs.Outcomes.{setting_of}
+use mathlib.Core.Path.{sym, ◌∙◌}
 use Rattle.frame_writer.proofs.WholeFrame.{length_of_parts}
 use Rattle.frame_writer.proofs.WriteAnswers.{bits_between, in_range_lem, refuse-setting, refuse-sample, refuse-room, frame_written}
 use Rattle.frame_writer.proofs.write_frame.Goals as goal

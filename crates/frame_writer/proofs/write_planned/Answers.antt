@@ -1,5 +1,4 @@
 -- `write_planned` meets its contract: header, subframes and end, one after the other. Assumes nothing.
-use borrow.Author.Rules.{rules}
 use Rattle.frame_writer.proofs.WholeFrame.{unpadded-good, unpadded-within, frame_is}
 use Rattle.frame_writer.proofs.write_planned.Goals as goal
 

@@ -1,9 +1,6 @@
 -- `all_fit` meets its contract: a turn for each sample. Assumes nothing.
-use Prim.Native.Nat.{◌-◌, ◌≤◌}
 use borrow.Author.Rules.{rules}
-use mathlib.Core.Path.{◌≡◌, refl, sym, ◌∙◌}
-use lib.ListN.{length, drop}
-use Rattle.rfc9639.specs.Write.{all_fit}
+use mathlib.Core.Path.{refl, sym, ◌∙◌}
 use Rattle.frame_writer.proofs.SampleFit.{fit_fails, fit_next, fit-end}
 use Rattle.frame_writer.proofs.fitting.all_fit.Goals as goal
 

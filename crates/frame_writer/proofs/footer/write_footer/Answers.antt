@@ -1,8 +1,5 @@
 -- `write_footer` meets its contract: the padding, then the CRC-16. Assumes nothing.
-use Prim.Native.Nat.{◌≤◌}
 use mathlib.Core.Path.{ap, sym, ◌∙◌}
-use borrow.Author.Rules.{rules}
-use lib.ListN.{length}
 use lib.Seq.{length-take-le}
 use Rattle.reading.specs.NumbersAsBits.{bits_of}
 use Rattle.bit_writer.specs.PenWrites.{inked}

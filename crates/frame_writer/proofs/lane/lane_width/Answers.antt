@@ -1,5 +1,4 @@
 -- `lane_width` meets its contract, lane by lane. Assumes nothing.
-use borrow.Author.Rules.{rules}
 use mathlib.Core.Path.{refl}
 use Rattle.rfc9639.specs.Write.{lane_width}
 use Rattle.frame_writer.proofs.lane.lane_width.Goals as goal

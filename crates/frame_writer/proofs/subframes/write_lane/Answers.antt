@@ -1,5 +1,4 @@
 -- `write_lane` meets its contract: a subframe is what its lane stores, in the given way. Assumes nothing.
-use borrow.Author.Rules.{rules}
 use Rattle.frame_writer.proofs.SubframeWrites.{lane_written}
 use Rattle.frame_writer.proofs.subframes.write_lane.Goals as goal
 
