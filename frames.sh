@@ -48,17 +48,10 @@ fi
 cd "$here" || exit 2
 . ./kit.sh
 hold_kit frames.sh
-program=target/bin/frame_list
-if [ ! -f "$program" ] || [ -n "$(find crates crates.txt -newer "$program" | head -n 1)" ]; then
+program=crates/frame_list/out/frame_list
+if [ ! -f "$program" ] || [ -n "$(find crates crates.txt -name out -prune -o -type f -newer "$program" -print | head -n 1)" ]; then
     echo "frames.sh: proving and building the reader (some minutes on a fresh clone)" >&2
-    work=$(mktemp -d) || exit 2
-    trap 'rm -rf "$work"' EXIT
-    : >"$work/started"
-    if ! rt check frame_list >"$work/log" 2>&1; then
-        tail -n 5 "$work/log" >&2
-        fail "the reader does not build"
-    fi
-    touch -r "$work/started" "$program"
+    sh build.sh frame_list || fail "the reader does not build"
 fi
 sh run.sh frame_list ${card:+"$card"} | awk '
     { print; word = $1 }

@@ -1,17 +1,13 @@
 #!/bin/sh
 # The gate. From a fresh clone: sh test.sh
-# It checks that the kit is the one README.md names and that the formatter has nothing to change. Then it proves every
-# crate, tries every must-fail edit and runs every program, all from scratch. Its last line is 'N passed, M failed'.
+# It checks that the kit is the one README.md names. Then it proves every crate, tries every must-fail edit and runs every
+# program (rt ci), and runs the programs on their stored cases. Its last line is 'N passed, M failed'.
 # Lines above it that start with 'not compared: ' say what was left out, and what was missing for it.
 set -u
 cd "$(dirname "$0")" || exit 2
 
 . ./kit.sh
 hold_kit test.sh
-if ! rt fmt --check; then
-    echo "test.sh: not in the formatter's layout: run 'rt fmt'" >&2
-    exit 1
-fi
 work=$(mktemp -d) || exit 2
 trap 'rm -rf "$work"' EXIT
 log=$work/log missing=$work/missing
@@ -58,16 +54,15 @@ count_compared() { # STATUS SCRIPT LOG
     grep -v '^not compared: ' "$3"
 }
 
-# rt starts RT_JOBS checks at a time and waits for all of them: with one job more than there are processors, none of
-# these is idle for long. With more jobs than that, each takes longer, since they share the caches. The largest check
-# takes 2.3 gigabytes.
-if [ -z "${RT_JOBS:-}" ]; then
-    most=$(($(nproc 2>/dev/null || echo 1) + 1))
-    RT_JOBS=$(awk -v most="$most" '/^MemAvailable/ { n = int($2 / 2500000); print (n > most ? most : n < 1 ? 1 : n) }' \
-        /proc/meminfo)
-    export RT_JOBS
-fi
 run rt ci
+# An edit that no longer fits the text shows nothing, and rt ci passes all the same.
+if grep -q '^rt: ok.*, [1-9][0-9]* bad' "$log"; then
+    fail 'a must-fail edit no longer fits the text'
+fi
+# The programs, for their stored cases and for the comparisons.
+for program in runner read_probe stream_probe write_probe frame_list; do
+    sh build.sh "$program" || fail "$program does not build"
+done
 # Comparisons with claxon and flac, and the bindings, if Rust, claxon's source, flac and cc are available. The longest of
 # them runs on one processor while the stored cases run on another.
 sh oracle/run.sh --seconds 90 >"$work/oracle" 2>&1 &

@@ -1,7 +1,7 @@
 # Finds libthriftacorn.a, and builds it if it is missing or a source is newer. Sourced by the scripts that link it,
 # which set 'name' (their own name) and 'root' (the repository). It sets 'library' to the library's folder: the one
-# that THRIFTACORN_LIB names, or else target/staticlib, or target/native on a processor other than x86-64. If there is
-# no library and none can be built, it ends the script with status 1.
+# that THRIFTACORN_LIB names, or else crates/thriftacorn/out. If there is no library and none can be built, it ends the
+# script with status 1.
 # shellcheck shell=sh
 no_library() { # WORDS
     echo "$name: $1" >&2
@@ -21,18 +21,10 @@ make_library() { # COMMAND
 if [ -n "${THRIFTACORN_LIB:-}" ]; then
     library=$(cd "$THRIFTACORN_LIB" && pwd) || no_library "THRIFTACORN_LIB names '$THRIFTACORN_LIB', which is not a folder"
 else
-    case $(uname -m) in
-    x86_64) library=$root/target/staticlib ;;
-    *) library=$root/target/native ;;
-    esac
+    library=$root/crates/thriftacorn/out
     newer=none
     [ -f "$library/libthriftacorn.a" ] &&
-        newer=$(find "$root/crates" "$root/crates.txt" -type f -newer "$library/libthriftacorn.a" | head -n 1)
-    if [ -n "$newer" ]; then
-        case $library in
-        */native) make_library sh oracle/native.sh ;;
-        *) make_library rt staticlib thriftacorn ;;
-        esac
-    fi
+        newer=$(find "$root/crates" "$root/crates.txt" -name out -prune -o -type f -newer "$library/libthriftacorn.a" -print | head -n 1)
+    [ -z "$newer" ] || make_library sh build.sh thriftacorn
 fi
 [ -f "$library/libthriftacorn.a" ] || no_library "$library has no libthriftacorn.a"

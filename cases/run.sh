@@ -41,7 +41,7 @@ elif [ ! -s "$file" ]; then
 elif [ -n "$(tail -c 1 "$file")" ]; then
     fail "the last line of $file has no newline at its end, so some of it may be missing"
 fi
-[ -f "target/bin/$program" ] || fail "there is no program target/bin/$program"
+[ -f "crates/$program/out/$program" ] || fail "there is no program crates/$program/out/$program: sh build.sh $program"
 [ "$failed" -eq 0 ] || finish
 
 scratch=$(mktemp -d) || exit 2

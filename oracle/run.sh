@@ -10,5 +10,5 @@ compared="claxon with this reader ($name)"
 . "$(dirname "$0")/build.sh"
 build oracle "$root/oracle/src/main.rs" || exit 1
 runner=''
-if [ -f "$root/target/bin/runner" ] && command -v rt >/dev/null 2>&1; then runner="sh '$root/run.sh' runner"; fi
+if [ -f "$root/crates/runner/out/runner" ]; then runner="sh '$root/run.sh' runner"; fi
 exec "$out/oracle" --work "$out" --runner "$runner" "$@"

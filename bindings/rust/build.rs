@@ -1,14 +1,11 @@
 //! Finds the static library: in the folder that THRIFTACORN_LIB names (a relative path starts from this folder), or in
-//! the repository's target/staticlib for x86-64 or target/native for other processors.
+//! the repository's crates/thriftacorn/out. It is for x86-64.
 use std::{env, path::PathBuf, process::exit};
 
 fn main() {
     println!("cargo:rerun-if-env-changed=THRIFTACORN_LIB");
     let here = PathBuf::from(env::var_os("CARGO_MANIFEST_DIR").unwrap());
-    let (own, command) = match env::var("CARGO_CFG_TARGET_ARCH").as_deref() {
-        Ok("x86_64") => ("../../target/staticlib", "rt staticlib thriftacorn"),
-        _ => ("../../target/native", "sh oracle/native.sh"),
-    };
+    let (own, command) = ("../../crates/thriftacorn/out", "sh build.sh thriftacorn");
     let folder = here.join(env::var_os("THRIFTACORN_LIB").unwrap_or(own.into()));
     let archive = folder.join("libthriftacorn.a");
     if !archive.is_file() {

@@ -1,6 +1,5 @@
 -- What a pen writes into some bytes, bit by bit. Where the bytes end, it stops: the bits that are left are dropped.
-use Rattle.std.specs.Prelude.{ℕ, ◌+◌, ◌*◌, ◌^◌, ◌≡◌, Bool, ◌&&◌, List, [], ◌∷◌, ltb, length, set}
-use Rattle.reading.specs.Readers.{if◌then◌else◌}
+use Rattle.std.specs.Prelude.{ℕ, ◌+◌, ◌*◌, ◌^◌, ◌≡◌, Bool, ◌&&◌, List, [], ◌∷◌, ltb, length, set, if◌then◌else◌}
 use Rattle.bit_writer.specs.declared.Pen.{Pen}
 
 -- the pen, and the bytes that it writes into

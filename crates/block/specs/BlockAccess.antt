@@ -1,6 +1,5 @@
 -- What access to a block's samples answers. The `channels` times `size` samples are stored channel after channel.
-use Rattle.std.specs.Prelude.{ℕ, ◌+◌, ◌*◌, ◌&&◌, List, leb, ltb, eqb, ℤ, pos, length, get_or}
-use Rattle.reading.specs.Readers.{if◌then◌else◌}
+use Rattle.std.specs.Prelude.{ℕ, ◌+◌, ◌*◌, ◌&&◌, List, leb, ltb, eqb, ℤ, pos, length, get_or, if◌then◌else◌}
 use Rattle.error.specs.declared.Refusal.{Refusal}
 use Rattle.block.specs.declared.Block.{Block}
 use Rattle.block.specs.declared.ChannelAt.{ChannelAt}

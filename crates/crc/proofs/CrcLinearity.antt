@@ -8,7 +8,7 @@ use mathlib.Core.List.{List, [], ◌∷◌, ◌++◌}
 use lib.Bits.{bit_xor, xor_lt, xor_mod, xor_shr, xor_self, xor_zero_l, xor_zero_r}
 use lib.Dec.{eqb}
 use lib.Pow.{pow_pos, field, shr-shr, shl-shr, shr_lt}
-use Rattle.reading.specs.Readers.{if◌then◌else◌}
+use Rattle.std.specs.Prelude.{if◌then◌else◌}
 use Rattle.reading.specs.Bytes.{bits_of_byte, bits_of_bytes}
 use Rattle.reading.specs.NumbersAsBits.{bits_of}
 use Rattle.rfc9639.specs.CheckSums.{crc_bit, crc_bits}

@@ -9,7 +9,7 @@ use borrow.Author.Tests.{ltb-true, leb-true}
 use lib.Dec.{leb, ltb, eqb}
 use lib.Pow.{pow_mono, pow_pos}
 use Rattle.reading.specs.declared.Place.{Place}
-use Rattle.reading.specs.Readers.{if◌then◌else◌}
+use Rattle.std.specs.Prelude.{if◌then◌else◌}
 use Rattle.reading.specs.Places.{got_at, place_of, run_at}
 use Rattle.reading.proofs.Postconditions.{Holds, Meets, holds_at, value, refusal, holds_bind, holds_weaken, holds_bits, holds_passed, holds_require, holds_if}
 use Rattle.rfc9639.specs.declared.BlockTime.{BlockTime}

@@ -8,7 +8,8 @@ use mathlib.Core.Path.{◌≡◌, refl, sym, ◌∙◌, subst}
 use mathlib.Core.List.{List, ◌++◌}
 use lib.ListN.{length, take, length-append, length-take}
 use Rattle.reading.specs.declared.Place.{Place}
-use Rattle.reading.specs.Readers.{Ask, done, ◌>>=◌, if◌then◌else◌}
+use Rattle.std.specs.Prelude.{if◌then◌else◌}
+use Rattle.reading.specs.Readers.{Ask, done, ◌>>=◌}
 use Rattle.reading.specs.Places.{position, place_of, At, got_at, refused_at, short_at, run_at, and_then}
 use Rattle.reading.proofs.ByteRuns.{In, stays_in, run_at-done, run_at_bind, bind_is}
 use Rattle.reading.proofs.BytePrefixes.{run_at_append, run_at-take, run_at-take-short}

@@ -1,6 +1,5 @@
 -- The number of each refusal: what the definition's `stop` and a report carry.
-use Rattle.std.specs.Prelude.{ℕ, eqb}
-use Rattle.reading.specs.Readers.{if◌then◌else◌}
+use Rattle.std.specs.Prelude.{ℕ, eqb, if◌then◌else◌}
 use Rattle.reading.specs.Places.{At, refused_at, short_at}
 use Rattle.error.specs.declared.Refusal.{Refusal}
 use Rattle.error.specs.declared.Refusal.TheVariants.{NothingLeft, CutShort, NotSync, Reserved, BadNumber, HeaderSum, NoRoom, NotDone, BadShape, FrameSum, BadArgument, SampleRange, OutputRoom}

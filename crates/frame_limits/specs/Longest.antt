@@ -1,6 +1,5 @@
 -- The length that no frame with some settings exceeds.
-use Rattle.std.specs.Prelude.{ℕ, ◌*◌}
-use Rattle.reading.specs.Readers.{if◌then◌else◌}
+use Rattle.std.specs.Prelude.{ℕ, ◌*◌, if◌then◌else◌}
 use Rattle.rfc9639.specs.declared.FrameSetting.{FrameSetting}
 use Rattle.rfc9639.specs.HeaderCodes.{assignment, channel_count}
 use Rattle.rfc9639.specs.Write.{allowed, frame_bound}

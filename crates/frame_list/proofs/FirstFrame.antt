@@ -7,7 +7,7 @@ use mathlib.Core.Path.{◌≡◌, refl, ap, ap₂, sym, ◌∙◌, subst}
 use mathlib.Core.List.{List, [], ◌∷◌, ◌++◌}
 use lib.Dec.{eqb}
 use lib.ListN.{drop}
-use Rattle.reading.specs.Readers.{if◌then◌else◌}
+use Rattle.std.specs.Prelude.{if◌then◌else◌}
 use Rattle.reading.specs.declared.Place.{Place}
 use Rattle.reading.specs.Places.{At, got_at, refused_at, short_at, run_at, place_of}
 use Rattle.reading.proofs.ByteRuns.{and_fst}

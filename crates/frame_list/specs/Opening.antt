@@ -1,7 +1,7 @@
 -- The start of a card: where its stream header ends. The card may be longer than the window, and so may its header: each
 -- promise is about all of the card's bytes, those before the window, those in it and those that follow.
-use Rattle.std.specs.Prelude.{ℕ, ◌+◌, ◌-◌, ◌^◌, ◌≤◌, ◌<◌, min, Bool, true, false, ◌⊎◌, ◌≡◌, List, ◌++◌, eqb, length, take, drop}
-use Rattle.reading.specs.Readers.{Ask, done, if◌then◌else◌}
+use Rattle.std.specs.Prelude.{ℕ, ◌+◌, ◌-◌, ◌^◌, ◌≤◌, ◌<◌, min, Bool, true, false, ◌⊎◌, ◌≡◌, List, ◌++◌, eqb, length, take, drop, if◌then◌else◌}
+use Rattle.reading.specs.Readers.{Ask, done}
 use Rattle.reading.specs.declared.Place.{Place}
 use Rattle.reading.specs.Places.{At, got_at, refused_at, short_at, run_at, place_of}
 use Rattle.error.specs.declared.Refusal.{Refusal}

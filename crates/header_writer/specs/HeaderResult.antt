@@ -1,6 +1,5 @@
 -- The result of writing a frame's header into some bytes.
-use Rattle.std.specs.Prelude.{ℕ, ◌*◌, List, leb, length}
-use Rattle.reading.specs.Readers.{if◌then◌else◌}
+use Rattle.std.specs.Prelude.{ℕ, ◌*◌, List, leb, length, if◌then◌else◌}
 use Rattle.rfc9639.specs.declared.FrameSetting.{FrameSetting}
 use Rattle.rfc9639.specs.Write.{header_bits}
 use Rattle.bit_writer.specs.PenWrites.{State, inked, fresh}

@@ -1,6 +1,5 @@
 -- What the answers of this crate mean in the definition, and what 64 bits keep of the number that was read.
-use Rattle.std.specs.Prelude.{ℕ, ◌+◌, ◌*◌, ◌%◌, ◌^◌, List, leb, ltb, length, take, drop}
-use Rattle.reading.specs.Readers.{if◌then◌else◌}
+use Rattle.std.specs.Prelude.{ℕ, ◌+◌, ◌*◌, ◌%◌, ◌^◌, List, leb, ltb, length, take, drop, if◌then◌else◌}
 use Rattle.reading.specs.Bytes.{bits_of_bytes}
 use Rattle.reading.specs.NumbersAsBits.{spelt}
 use Rattle.reading.specs.Places.{At, got_at, refused_at, short_at}

@@ -1,6 +1,5 @@
 -- The number of a written frame's first sample (RFC 9639 section 9.1.5), by the block size given for the stream.
-use Rattle.std.specs.Prelude.{◌*◌, eqb}
-use Rattle.reading.specs.Readers.{if◌then◌else◌}
+use Rattle.std.specs.Prelude.{◌*◌, eqb, if◌then◌else◌}
 use Rattle.rfc9639.specs.declared.FirstSample.{FirstSample}
 use Rattle.rfc9639.specs.declared.FrameSetting.{FrameSetting}
 use Rattle.rfc9639.specs.declared.StreamBlock.{StreamBlock}

@@ -1,8 +1,7 @@
 -- The settings under which a written frame is read back (RFC 9639 section 9.1): those that a stream can have, if the bits
 -- of the stream's record, where there is one, are the frame's, and under fixed blocking the size given for the stream's
 -- blocks, where it is known, is not below the frame's.
-use Rattle.std.specs.Prelude.{ℕ, Bool, true, ◌&&◌, leb, eqb}
-use Rattle.reading.specs.Readers.{if◌then◌else◌}
+use Rattle.std.specs.Prelude.{ℕ, Bool, true, ◌&&◌, leb, eqb, if◌then◌else◌}
 use Rattle.rfc9639.specs.declared.FrameSetting.{FrameSetting}
 use Rattle.rfc9639.specs.declared.Settings.{Settings}
 use Rattle.rfc9639.specs.declared.StreamBlock.{StreamBlock}

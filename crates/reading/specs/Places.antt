@@ -1,8 +1,8 @@
 -- A reader's run on bytes, from a place. At a place outside the input every reader is cut short, so no caller has to
 -- check the place first.
-use Rattle.std.specs.Prelude.{ℕ, ◌+◌, ◌*◌, ◌/◌, ◌%◌, Bool, ◌&&◌, List, leb, ltb, length}
+use Rattle.std.specs.Prelude.{ℕ, ◌+◌, ◌*◌, ◌/◌, ◌%◌, Bool, ◌&&◌, List, leb, ltb, length, if◌then◌else◌}
 use Rattle.reading.specs.declared.Place.{Place}
-use Rattle.reading.specs.Readers.{Ask, RunResult, got, refused, short, run, if◌then◌else◌}
+use Rattle.reading.specs.Readers.{Ask, RunResult, got, refused, short, run}
 use Rattle.reading.specs.Bytes.{bits_of_bytes}
 
 abbrev pub position : Place → ℕ

@@ -1,7 +1,7 @@
 -- A reader is a tree of questions to the input; here are the trees, and their runs on a list of bits. A reader can only
 -- ask a question, look at the bits that it has read, finish, or refuse. So its answer depends on the bits that it has
 -- read and on nothing else, whatever the format (proofs/BitPrefixes.antt).
-use Rattle.std.specs.Prelude.{ℕ, zero, suc, ◌+◌, ◌*◌, Bool, cond, List, [], ◌∷◌, ◌++◌, take, drop}
+use Rattle.std.specs.Prelude.{ℕ, zero, suc, ◌+◌, ◌*◌, Bool, if◌then◌else◌, List, [], ◌∷◌, ◌++◌, take, drop}
 
 -- The next n bits as a number, or how many zeros come before the next one bit. That one bit is read too.
 pub data Question : Type 0 where
@@ -19,7 +19,6 @@ pub data Ask (A : Type 0) : Type 0 where
 
 infixl 10 ◌>>=◌
 infixl 10 ◌>>◌
-infixr 5 if◌then◌else◌
 -- one reader, then another that may use the first one's value
 unfoldable pub ◌>>=◌ : {A B : Type 0} → Ask A → (A → Ask B) → Ask B
 done a >>= k = k a
@@ -29,9 +28,6 @@ seen f >>= k = seen (λ x. f x >>= k)
 
 abbrev pub ◌>>◌ : {A B : Type 0} → Ask A → Ask B → Ask B
 p >> q = p >>= (λ _. q)
-
-abbrev pub if◌then◌else◌ : {A : Type 0} → Bool → A → A → A
-if b then x else y = cond b x y
 
 unfoldable pub bits : ℕ → Ask ℕ
 bits n = ask (next_bits n) done

@@ -6,7 +6,7 @@ use mathlib.Core.List.{List, [], ◌∷◌}
 use lib.Bits.{bit_xor, xor_lt}
 use lib.Dec.{eqb, lit<}
 use lib.Pow.{pow_pos}
-use Rattle.reading.specs.Readers.{if◌then◌else◌}
+use Rattle.std.specs.Prelude.{if◌then◌else◌}
 use Rattle.rfc9639.specs.CheckSums.{crc_bit, crc_bits, crc8, crc16}
 
 module _ (w poly : ℕ) (hp : poly < 2 ^ w) where

@@ -1,8 +1,7 @@
 -- The check sums (RFC 9639 sections 9.1.8 and 9.3) are CRCs: the remainder of the bits, most significant first and
 -- followed by w zeros, divided by a polynomial of degree w over the field of two elements. Both start from zero.
-use Rattle.std.specs.Prelude.{ℕ, ◌+◌, ◌-◌, ◌*◌, ◌/◌, ◌%◌, ◌^◌, List, [], ◌∷◌, eqb}
+use Rattle.std.specs.Prelude.{ℕ, ◌+◌, ◌-◌, ◌*◌, ◌/◌, ◌%◌, ◌^◌, List, [], ◌∷◌, eqb, if◌then◌else◌}
 use Rattle.std.specs.Int.Bits.{bit_xor}
-use Rattle.reading.specs.Readers.{if◌then◌else◌}
 
 -- The CRC of w bits after one more bit b of the input. `poly` has one bit for each term of the polynomial below x^w.
 unfoldable pub crc_bit : ℕ → ℕ → ℕ → ℕ → ℕ

@@ -1,7 +1,7 @@
 -- The frame header (RFC 9639 section 9.1). The fields are checked in their order, each as soon as it is read.
 -- A refusal's number is document 01's.
-use Rattle.std.specs.Prelude.{ℕ, ◌*◌, ◌/◌, ◌%◌, ◌||◌, leb, ltb, eqb}
-use Rattle.reading.specs.Readers.{Ask, done, ◌>>=◌, ◌>>◌, bits, passed, require, if◌then◌else◌}
+use Rattle.std.specs.Prelude.{ℕ, ◌*◌, ◌/◌, ◌%◌, ◌||◌, leb, ltb, eqb, if◌then◌else◌}
+use Rattle.reading.specs.Readers.{Ask, done, ◌>>=◌, ◌>>◌, bits, passed, require}
 use Rattle.rfc9639.specs.declared.BlockTime.{BlockTime}
 use Rattle.rfc9639.specs.declared.BlockTime.TheVariants.{FrameNumber, SampleNumber}
 use Rattle.rfc9639.specs.declared.ChannelAssignment.{ChannelAssignment}

@@ -1,7 +1,7 @@
 -- The numbers of the frame header that the reader and the writer share (RFC 9639 section 9.1): its constants, and its
 -- code tables, each in both directions. A refusal's number is document 01's.
-use Rattle.std.specs.Prelude.{ℕ, ◌+◌, ◌-◌, ◌*◌, ◌^◌, List, [], leb, ltb, eqb}
-use Rattle.reading.specs.Readers.{Ask, done, stop, ◌>>=◌, ◌>>◌, bits, require, if◌then◌else◌}
+use Rattle.std.specs.Prelude.{ℕ, ◌+◌, ◌-◌, ◌*◌, ◌^◌, List, [], leb, ltb, eqb, if◌then◌else◌}
+use Rattle.reading.specs.Readers.{Ask, done, stop, ◌>>=◌, ◌>>◌, bits, require}
 use Rattle.reading.specs.NumbersAsBits.{bits_of}
 use Rattle.rfc9639.specs.declared.ChannelAssignment.{ChannelAssignment}
 use Rattle.rfc9639.specs.declared.ChannelAssignment.TheVariants.{Independent, LeftSide, SideRight, MidSide}

@@ -1,7 +1,7 @@
 -- Integers of w bits in two's complement. Prediction and stereo decoding compute in ℤ, and `wrapped` is where a result
 -- is cut to a width. Only a residual's folded form is cut elsewhere (`folded`, Residual.antt).
-use Rattle.std.specs.Prelude.{ℕ, suc, ◌-◌, ◌*◌, ◌/◌, ◌%◌, ◌^◌, ltb, ℤ, pos, negsuc, ◌*ℤ◌}
-use Rattle.reading.specs.Readers.{Ask, done, ◌>>=◌, bits, if◌then◌else◌}
+use Rattle.std.specs.Prelude.{ℕ, suc, ◌-◌, ◌*◌, ◌/◌, ◌%◌, ◌^◌, ltb, ℤ, pos, negsuc, ◌*ℤ◌, if◌then◌else◌}
+use Rattle.reading.specs.Readers.{Ask, done, ◌>>=◌, bits}
 
 -- the value of w bits, read in two's complement
 unfoldable pub signed : ℕ → ℕ → ℤ

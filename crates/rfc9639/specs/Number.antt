@@ -1,7 +1,7 @@
 -- The coded number (RFC 9639 section 9.1.5), one to seven bytes in an extended UTF-8. Forms longer than needed are
 -- accepted. A number has at most 36 bits, so none starts with the byte FF.
-use Rattle.std.specs.Prelude.{ℕ, zero, suc, ◌+◌, ◌*◌, ◌/◌, ◌%◌, ltb, eqb}
-use Rattle.reading.specs.Readers.{Ask, done, stop, ◌>>=◌, ◌>>◌, bits, require, if◌then◌else◌}
+use Rattle.std.specs.Prelude.{ℕ, zero, suc, ◌+◌, ◌*◌, ◌/◌, ◌%◌, ltb, eqb, if◌then◌else◌}
+use Rattle.reading.specs.Readers.{Ask, done, stop, ◌>>=◌, ◌>>◌, bits, require}
 
 -- n follower bytes 10xxxxxx, each with six more bits of the number; v is the number so far
 unfoldable pub with_followers : ℕ → ℕ → Ask ℕ

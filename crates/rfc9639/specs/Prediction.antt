@@ -1,6 +1,5 @@
 -- Prediction (RFC 9639 sections 9.2.5 and 9.2.6): exact in ℤ; of the sample the low 32 bits are kept.
-use Rattle.std.specs.Prelude.{ℕ, List, [], ◌∷◌, ◌++◌, reverse, eqb, ℤ, pos, negsuc, ◌+ℤ◌, ◌*ℤ◌}
-use Rattle.reading.specs.Readers.{if◌then◌else◌}
+use Rattle.std.specs.Prelude.{ℕ, List, [], ◌∷◌, ◌++◌, reverse, eqb, ℤ, pos, negsuc, ◌+ℤ◌, ◌*ℤ◌, if◌then◌else◌}
 use Rattle.rfc9639.specs.Integers.{wrapped, shift_down}
 
 -- the dot product of two lists, added to acc

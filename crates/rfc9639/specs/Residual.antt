@@ -1,6 +1,6 @@
 -- The coded residual (RFC 9639 section 9.2.7).
-use Rattle.std.specs.Prelude.{ℕ, ◌+◌, ◌-◌, ◌*◌, ◌/◌, ◌%◌, ◌^◌, List, ◌∷◌, leb, ltb, eqb, ℤ, pos, negsuc, replicate}
-use Rattle.reading.specs.Readers.{Ask, done, ◌>>=◌, ◌>>◌, bits, zeros, require, many, each, if◌then◌else◌}
+use Rattle.std.specs.Prelude.{ℕ, ◌+◌, ◌-◌, ◌*◌, ◌/◌, ◌%◌, ◌^◌, List, ◌∷◌, leb, ltb, eqb, ℤ, pos, negsuc, replicate, if◌then◌else◌}
+use Rattle.reading.specs.Readers.{Ask, done, ◌>>=◌, ◌>>◌, bits, zeros, require, many, each}
 use Rattle.rfc9639.specs.Integers.{signed_bits}
 
 -- Section 9.2.7.2: a residual from its folded (zigzag) form. 2 n unfolds to n, and 2 n + 1 to -1 - n.

@@ -1,6 +1,5 @@
 -- The settings of the reader, and what they mean for a frame of the stream.
-use Rattle.std.specs.Prelude.{ℕ, ◌*◌, Bool, true, ◌&&◌, leb, ltb, eqb}
-use Rattle.reading.specs.Readers.{if◌then◌else◌}
+use Rattle.std.specs.Prelude.{ℕ, ◌*◌, Bool, true, ◌&&◌, leb, ltb, eqb, if◌then◌else◌}
 use Rattle.rfc9639.specs.declared.BlockTime.{BlockTime}
 use Rattle.rfc9639.specs.declared.BlockTime.TheVariants.{FrameNumber, SampleNumber}
 use Rattle.rfc9639.specs.declared.FirstSample.{FirstSample}

@@ -1,7 +1,7 @@
 -- The stream header (RFC 9639 sections 6 and 8): the mark fLaC, then metadata blocks, the first of which is STREAMINFO.
 -- The fields are checked in their order, each as soon as it is read. A refusal's number is document 01's.
-use Rattle.std.specs.Prelude.{ℕ, zero, suc, ◌+◌, ◌*◌, Bool, List, leb, ltb, eqb, length}
-use Rattle.reading.specs.Readers.{Ask, done, stop, ◌>>=◌, ◌>>◌, bits, require, if◌then◌else◌}
+use Rattle.std.specs.Prelude.{ℕ, zero, suc, ◌+◌, ◌*◌, Bool, List, leb, ltb, eqb, length, if◌then◌else◌}
+use Rattle.reading.specs.Readers.{Ask, done, stop, ◌>>=◌, ◌>>◌, bits, require}
 use Rattle.reading.specs.Places.{At, run_at, place_of}
 use Rattle.rfc9639.specs.declared.Md5.{Md5}
 use Rattle.rfc9639.specs.declared.Sizes.{Sizes}

@@ -1,7 +1,6 @@
 -- A channel as the writer stores it (RFC 9639 sections 9.2.1 to 9.2.7): the candidates, the bits of each, and which of
 -- them is taken.
-use Rattle.std.specs.Prelude.{ℕ, zero, suc, ◌+◌, ◌*◌, ◌/◌, ◌^◌, min, Bool, true, false, ◌&&◌, List, [], ◌∷◌, ◌++◌, map, reverse, ltb, eqb, ℤ, pos, negsuc, ◌-ℤ◌, length, take, drop}
-use Rattle.reading.specs.Readers.{if◌then◌else◌}
+use Rattle.std.specs.Prelude.{ℕ, zero, suc, ◌+◌, ◌*◌, ◌/◌, ◌^◌, min, Bool, true, false, ◌&&◌, List, [], ◌∷◌, ◌++◌, map, reverse, ltb, eqb, ℤ, pos, negsuc, ◌-ℤ◌, length, take, drop, if◌then◌else◌}
 use Rattle.reading.specs.NumbersAsBits.{bits_of, unary, row}
 use Rattle.rfc9639.specs.declared.Candidate.{Candidate}
 use Rattle.rfc9639.specs.declared.Candidate.TheVariants.{Constant, Verbatim, Fixed}

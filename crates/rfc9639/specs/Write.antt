@@ -1,6 +1,5 @@
 -- The frame that the writer writes (RFC 9639 section 9; document 01, "The added writer"), and the result of writing.
-use Rattle.std.specs.Prelude.{ℕ, zero, suc, ◌+◌, ◌-◌, ◌*◌, ◌/◌, ◌%◌, ◌^◌, Bool, true, ◌&&◌, ◌||◌, List, [], ◌∷◌, ◌++◌, map, leb, ltb, eqb, ℤ, pos, negsuc, ◌+ℤ◌, ◌-ℤ◌, length, take, drop, replicate}
-use Rattle.reading.specs.Readers.{if◌then◌else◌}
+use Rattle.std.specs.Prelude.{ℕ, zero, suc, ◌+◌, ◌-◌, ◌*◌, ◌/◌, ◌%◌, ◌^◌, Bool, true, ◌&&◌, ◌||◌, List, [], ◌∷◌, ◌++◌, map, leb, ltb, eqb, ℤ, pos, negsuc, ◌+ℤ◌, ◌-ℤ◌, length, take, drop, replicate, if◌then◌else◌}
 use Rattle.reading.specs.Bytes.{bits_of_bytes}
 use Rattle.reading.specs.NumbersAsBits.{bits_of, row, packed}
 use Rattle.rfc9639.specs.declared.ChannelAssignment.{ChannelAssignment}

@@ -1,6 +1,5 @@
 -- The low bits of a number and their sign extension, at every width: a width over 64 counts as 64.
-use Rattle.std.specs.Prelude.{ℕ, leb, ℤ, pos}
-use Rattle.reading.specs.Readers.{if◌then◌else◌}
+use Rattle.std.specs.Prelude.{ℕ, leb, ℤ, pos, if◌then◌else◌}
 use Rattle.rfc9639.specs.Integers.{low, wrapped}
 
 -- the low w bits of v, as a signed number

@@ -8,7 +8,8 @@ use borrow.Author.Tests.{leb-true, leb-false}
 use lib.Dec.{leb}
 use lib.ListN.{length}
 use Rattle.reading.specs.declared.Place.{Place}
-use Rattle.reading.specs.Readers.{Ask, done, ◌>>=◌, bits, if◌then◌else◌}
+use Rattle.std.specs.Prelude.{if◌then◌else◌}
+use Rattle.reading.specs.Readers.{Ask, done, ◌>>=◌, bits}
 use Rattle.reading.specs.Places.{position, got_at, short_at, inside, run_at}
 use Rattle.reading.proofs.ByteRuns.{In, inside_in, in_inside, stays_in, place_is, run_at-done, bind_got_lem, bind_short}
 use Rattle.reading.proofs.BitsTaken.{bits-there, bits-short}

@@ -7,7 +7,8 @@ use mathlib.Core.List.{List}
 use borrow.Author.Tests.{eq-eqb, ne_eqb, lt-ltb, le-ltb, le-leb, lt-leb, leb-true, leb-false}
 use lib.Dec.{leb, ltb, eqb}
 use Rattle.reading.specs.declared.Place.{Place}
-use Rattle.reading.specs.Readers.{Ask, done, stop, ◌>>=◌, ◌>>◌, bits, zeros, require, if◌then◌else◌}
+use Rattle.std.specs.Prelude.{if◌then◌else◌}
+use Rattle.reading.specs.Readers.{Ask, done, stop, ◌>>=◌, ◌>>◌, bits, zeros, require}
 use Rattle.reading.specs.Places.{got_at, refused_at, short_at, run_at}
 use Rattle.reading.proofs.ByteRuns.{stays_in, run_at-done, run_at-stop, bind_got_lem, bind_short, require_holds, require_fails}
 use Rattle.input.specs.Answers.{count}

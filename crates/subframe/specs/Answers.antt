@@ -1,7 +1,6 @@
 -- What a decoder's answer, with the samples that it left, means in the definition.
-use Rattle.std.specs.Prelude.{ℕ, ◌≡◌, List, leb, ℤ, pos, replicate}
+use Rattle.std.specs.Prelude.{ℕ, ◌≡◌, List, leb, ℤ, pos, replicate, if◌then◌else◌}
 use Rattle.reading.specs.declared.Place.{Place}
-use Rattle.reading.specs.Readers.{if◌then◌else◌}
 use Rattle.reading.specs.Places.{At, got_at, refused_at, run_at}
 use Rattle.error.specs.Numbers.{refused_by}
 use Rattle.rfc9639.specs.Subframe.{subframe}

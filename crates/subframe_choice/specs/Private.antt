@@ -1,7 +1,6 @@
 -- The pieces of the choice: the sums of the quotients for each parameter, and the choices made from them. Only
 -- contracts of private functions name it, so nobody has to believe it.
-use Rattle.std.specs.Prelude.{ℕ, suc, ◌+◌, ◌*◌, ◌/◌, ◌^◌, ◌<◌, List, [], ◌∷◌, map, ℤ, get_or}
-use Rattle.reading.specs.Readers.{if◌then◌else◌}
+use Rattle.std.specs.Prelude.{ℕ, suc, ◌+◌, ◌*◌, ◌/◌, ◌^◌, ◌<◌, List, [], ◌∷◌, map, ℤ, get_or, if◌then◌else◌}
 use Rattle.rfc9639.specs.declared.Candidate.{Candidate}
 use Rattle.rfc9639.specs.declared.Candidate.TheVariants.{Constant, Verbatim, Fixed}
 use Rattle.rfc9639.specs.SubframeCoding.{fold, uniform, numbers_from, fewest_of, cost}

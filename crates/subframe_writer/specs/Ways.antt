@@ -1,6 +1,5 @@
 -- The bits that are written of a channel.
-use Rattle.std.specs.Prelude.{ℕ, List, [], leb, ℤ}
-use Rattle.reading.specs.Readers.{if◌then◌else◌}
+use Rattle.std.specs.Prelude.{ℕ, List, [], leb, ℤ, if◌then◌else◌}
 use Rattle.rfc9639.specs.declared.Candidate.{Candidate}
 use Rattle.rfc9639.specs.SubframeCoding.{coded_as}
 

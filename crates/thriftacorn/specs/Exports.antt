@@ -1,9 +1,8 @@
 -- What each exported function promises: the number that it returns, and the value that each reference points to
 -- afterwards, are those of the definition. Each predicate is named after its function. It takes the arguments first,
 -- then the results; `refusal` is the number returned, 0 if nothing was refused.
-use Rattle.std.specs.Prelude.{ℕ, ◌+◌, ◌≡◌, List, eqb, ℤ, drop}
+use Rattle.std.specs.Prelude.{ℕ, ◌+◌, ◌≡◌, List, eqb, ℤ, drop, if◌then◌else◌}
 use Rattle.reading.specs.Places.{At, got_at, refused_at, short_at}
-use Rattle.reading.specs.Readers.{if◌then◌else◌}
 use Rattle.rfc9639.specs.declared.FirstSample.{FirstSample}
 use Rattle.rfc9639.specs.declared.SampleRate.{SampleRate}
 use Rattle.rfc9639.specs.declared.Settings.{Settings}

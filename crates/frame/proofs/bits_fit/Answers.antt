@@ -5,8 +5,8 @@ use Rattle.frame.proofs.bits_fit.Goals as goal
 
 pub returns-in-Unknown : goal.returns-in-Unknown
 unfolding bits_fit
-returns-in-Unknown c = rw c.enum_told-1.given.1
+returns-in-Unknown c = rw c.in-Unknown.is
 
 pub returns-in-Known : goal.returns-in-Known
 unfolding bits_fit
-returns-in-Known c = rw c.stream-1.given.1
+returns-in-Known c = rw c.in-Known.is

@@ -6,12 +6,12 @@ use Rattle.frame.proofs.block_in_range.Goals as goal
 
 pub returns-in-Unknown : goal.returns-in-Unknown
 unfolding in_range
-returns-in-Unknown c = rw c.enum_told-1.given.1
+returns-in-Unknown c = rw c.in-Unknown.is
 
 pub returns-then-size-gt0 : goal.returns-then-size-gt0
 unfolding in_range
-returns-then-size-gt0 c = rw (c.block-1.given.1, lt-ltb _ _ c.if-size-gt0.true)
+returns-then-size-gt0 c = rw (c.in-Known.is, lt-ltb _ _ c.if-size-gt0.true)
 
 pub returns-else-size-gt0 : goal.returns-else-size-gt0
 unfolding in_range
-returns-else-size-gt0 c = rw (c.block-1.given.1, le-ltb _ _ c.if-size-gt0.false)
+returns-else-size-gt0 c = rw (c.in-Known.is, le-ltb _ _ c.if-size-gt0.false)

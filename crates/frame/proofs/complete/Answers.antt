@@ -5,8 +5,8 @@ use Rattle.frame.proofs.complete.Goals as goal
 
 pub returns-in_default : goal.returns-in_default
 unfolding completed
-returns-in_default c = rw c.enum_told-1.given.1
+returns-in_default c = rw c.in_default.is
 
 pub returns : goal.returns
 unfolding completed
-returns c = rw (c.stream-1.given.1, c.rate_or.ensures, c.bits_or.ensures)
+returns c = rw (c.in-Known.is, c.rate_or.ensures, c.bits_or.ensures)

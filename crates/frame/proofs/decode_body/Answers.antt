@@ -17,39 +17,20 @@ use Rattle.frame.proofs.decode_body.Goals as goal
 
 pub returns-in_default : goal.returns-in_default
 returns-in_default c =
-    let k = c in let d = k.before.before.before in let a = d.before.before.before.args in
-    channels-stop a.h a.s.now a.at (length a.out.now) d.decode-channels.new.1.1.1.0 d.decode-channels.ensures k.enum_told.given.1
-    (c.fill.ensures ∙ ap (λ n. replicate n (pos 0)) d.decode-channels.auto.1.1.1.0)
-
--- channels that were read
-module _ (c : goal.In-Done-2) where
-  abbrev call : goal.After-decode_channels-coded
-  call = c
-
-  abbrev start : goal.Start
-  start = call.before.before.before
-
-  abbrev samples : List ℤ
-  samples = call.decode-channels.last.1.1.1.0
-
-  long : length samples ≡ length start.args.out.now
-  long = call.decode-channels.kept.1.1.1.0
-
-  got : run_at (each (subframe start.args.h.size) (widths start.args.h.channels start.args.h.bits)) start.args.s.now start.args.at
-      ≡ got_at samples c.coded-1.given.0.0
-  got = done_is samples call.decode-channels.ensures c.coded-1.given.1
+    channels-stop c.args.h c.args.s.now c.args.at (length c.args.out.now) c.decode_channels-coded.new.out c.decode_channels-coded.ensures c.in_default.is
+    (c.fill.ensures ∙ ap (λ n. replicate n (pos 0)) c.decode_channels-coded.auto.out)
 
 pub join-requires : goal.join-requires
 unfolding sample_count
-join-requires c = let m = c in long m ∙ (start m).requires.2
+join-requires c = c.decode_channels-coded.auto.out ∙ c.requires.2
 
 pub returns-in-Passed : goal.returns-in-Passed
 returns-in-Passed c =
-    let j = c in let e = j.before.before.before in let r = e.before.before in let m = r.before.before in let a = (start m).args in
-    body-done a.h a.s.now a.at (got m) (length a.out.now) (answer_is checked_at r.read-footer.ensures e.end.given.1) j.join.ensures
+    body-done c.args.h c.args.s.now c.args.at (done_is c.decode_channels-coded.new.out c.decode_channels-coded.ensures c.in-Done.is) (length c.args.out.now)
+    (answer_is checked_at c.read_footer-end.ensures c.in-Passed.is) c.join.ensures
 
 pub returns-in-Refused : goal.returns-in-Refused
 returns-in-Refused c =
-    let f = c in let e = f.before.before.before in let r = e.before.before in let m = r.before.before in let a = (start m).args in
-    footer-stops a.h a.s.now a.at (got m) (length a.out.now) (answer_is checked_at r.read-footer.ensures e.end2.given.1)
-    (f.fill2.ensures ∙ ap (λ n. replicate n (pos 0)) (long m))
+    footer-stops c.args.h c.args.s.now c.args.at (done_is c.decode_channels-coded.new.out c.decode_channels-coded.ensures c.in-Done.is) (length c.args.out.now)
+    (answer_is checked_at c.read_footer-end.ensures c.in-Refused.is)
+    (c.fill-in-Refused.ensures ∙ ap (λ n. replicate n (pos 0)) c.decode_channels-coded.auto.out)

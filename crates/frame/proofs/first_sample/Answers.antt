@@ -5,13 +5,13 @@ use Rattle.frame.proofs.StreamBlocks.{first_sample-number, first-unknown, first_
 use Rattle.frame.proofs.first_sample.Goals as goal
 
 pub overflow_mul-result : goal.overflow_mul-result
-overflow_mul-result c = let k = c in record { fits = rw (first_known_lem _ _ c.block-1.given.1 k.time2.given.1) at k.before.before.requires }
+overflow_mul-result c = record { fits = rw (first_known_lem _ _ c.in-Known.is c.in-FrameNumber.is) at c.requires }
 
 pub returns-in-SampleNumber : goal.returns-in-SampleNumber
-returns-in-SampleNumber c = sym (first_sample-number _ _ c.time-1.given.1)
+returns-in-SampleNumber c = sym (first_sample-number _ _ c.in-SampleNumber.is)
 
 pub returns-in-Unknown : goal.returns-in-Unknown
-returns-in-Unknown c = sym (first-unknown _ _ c.enum_told-1.given.1 c.time-in-FrameNumber-1.given.1)
+returns-in-Unknown c = sym (first-unknown _ _ c.in-Unknown.is c.in-FrameNumber.is)
 
 pub returns-in-Known : goal.returns-in-Known
-returns-in-Known c = let d = c in sym (first_known_lem _ _ d.block.given.1 d.before.before.before.time2.given.1)
+returns-in-Known c = sym (first_known_lem _ _ c.in-Known.is c.in-FrameNumber.is)

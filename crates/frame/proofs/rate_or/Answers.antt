@@ -5,8 +5,8 @@ use Rattle.frame.proofs.rate_or.Goals as goal
 
 pub returns-in-Unknown : goal.returns-in-Unknown
 unfolding rate_or
-returns-in-Unknown c = rw c.enum_told-1.given.1
+returns-in-Unknown c = rw c.in-Unknown.is
 
 pub returns-in-Known : goal.returns-in-Known
 unfolding rate_or
-returns-in-Known c = rw c.enum_told-in-Known-1.given.1
+returns-in-Known c = rw c.in-Known.is

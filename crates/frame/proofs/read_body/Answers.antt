@@ -1,5 +1,5 @@
 -- The frame after its header, by the tests and the calls that were made. Assumes nothing.
-use Prim.Native.Nat.{ℕ, ◌+◌, ◌*◌, ◌≤◌}
+use Prim.Native.Nat.{ℕ, ◌+◌, ◌*◌, ◌≤◌, ◌<◌}
 use native.Mathlib.Nat.{mul-le-mul}
 use native.Mathlib.Omega.{arith}
 use mathlib.Core.Bool.{true}
@@ -12,9 +12,12 @@ use lib.IntN.{ℤ}
 use lib.ListN.{length, take, drop}
 use lib.Seq.{length-take-le}
 use Rattle.reading.specs.Readers.{bits}
-use Rattle.reading.specs.Places.{position, got_at, place_of, run_at}
+use Rattle.reading.specs.Places.{position, got_at, short_at, place_of, run_at}
 use Rattle.reading.proofs.ByteRuns.{In, stays_in, and_fst}
 use Rattle.reading.proofs.BitsTaken.{bits-there, bits-short}
+use Rattle.reading.specs.declared.Place.{Place}
+use Rattle.subframe.specs.declared.Decoded.{Decoded}
+use Rattle.rfc9639.specs.HeaderCodes.{channel_count}
 use Rattle.rfc9639.specs.declared.FrameHeader.{FrameHeader}
 use Rattle.rfc9639.specs.declared.Settings.{Settings}
 use Rattle.rfc9639.specs.declared.StreamBlock.{StreamBlock}
@@ -28,171 +31,102 @@ use Rattle.subframe.specs.Answers.{Left}
 use Rattle.frame.proofs.StreamBlocks.{first_fits}
 use Rattle.frame.proofs.AnswerCases.{no_bits, other-bits, larger_block, no_room, no_first_bit, body-read, body_refused}
 use Rattle.frame.proofs.read_body.Goals as goal
+use Rattle.frame.proofs.read_body.Goals.{then-not-bits_fit-via-then-not-bits_fit, then-not-bits_fit-via-else-not-bits_fit+then-not-block_fits}
 
--- the header as it was read, then with the stream's values, and the count of its samples
-module _ (c : goal.After-channel_count-channels) where
-  abbrev start : goal.Start
-  start = c
+-- the settings are possible
+in_range_lem : (set : Settings) → possible set ≡ true → in_range set.block ≡ true
+unfolding possible
+in_range_lem set ok = and_fst (in_range set.block) (bits_in_range set.stream) ok
 
-  abbrev bytes : List ℕ
-  bytes = start.args.s.now
-
-  abbrev lent : List ℤ
-  lent = start.args.out.now
-
-  abbrev set : Settings
-  set = start.args.set
-
-  abbrev h : FrameHeader
-  h = c.complete-h.result
-
-  abbrev count : ℕ
-  count = c.channel_count-channels.result * h.size
-
-  header_is : run_at header bytes (place_of 0) ≡ got_at start.args.own_val start.args.at
-  header_is = sym start.pre.1
-
-  whole : h ≡ completed set.stream start.args.own_val
-  whole = c.complete-h.ensures
-
-  -- the settings are possible
-  ok : possible set ≡ true
-  ok = start.pre.0
-
-  in_range_lem : in_range set.block ≡ true
-  unfolding possible
-  in_range_lem = and_fst (in_range set.block) (bits_in_range set.stream) ok
-
-  own-sound : Sound start.args.own_val
-  own-sound = header-sound bytes header_is
-
+-- the header as it was read, then with the stream's values
+module _ (set : Settings) (s : List ℕ) {own h : FrameHeader} {at : Place} (e : run_at header s (place_of 0) ≡ got_at own at) (whole : h ≡ completed set.stream own) where
   sound : bits_read h.bits ≡ true → Sound h
-  sound some = subst Sound (sym whole) (completed-sound set.stream own-sound (subst (λ x. x.bits ≤ 24) whole (read_bits_lem h.bits some).1))
+  sound some = subst Sound (sym whole) (completed-sound set.stream (header-sound s e) (subst (λ x. x.bits ≤ 24) whole (read_bits_lem h.bits some).1))
 
-  count_is : count ≡ sample_count h
+  few_samples : sample_count h ≤ 8 * 65535
   unfolding sample_count
-  count_is = ap (λ n. n * h.size) c.channel_count-channels.ensures
+  few_samples =
+      let own-sound = header-sound s e in
+      rw (ap sample_count whole ∙ completed-count set.stream own) (mul-le-mul {n₂ = 8} {m₂ = 65535} own-sound.channels own-sound.size)
 
-  count-few : count ≤ 8 * 65535
+-- the count of its samples
+module _ (h : FrameHeader) {channels : ℕ} (counted : channels ≡ channel_count h.channels) where
+  count_is : channels * h.size ≡ sample_count h
   unfolding sample_count
-  count-few = rw (count_is ∙ ap sample_count whole ∙ completed-count set.stream start.args.own_val) (mul-le-mul {n₂ = 8} {m₂ = 65535} own-sound.channels own-sound.size)
+  count_is = ap (λ n. n * h.size) counted
 
-  part_is : count ≤ length lent → length (take count lent) ≡ sample_count h
-  part_is fits = length-take-le count lent fits ∙ count_is
+  part_is : (out : List ℤ) → channels * h.size ≤ length out → length (take (channels * h.size) out) ≡ sample_count h
+  part_is out fits = length-take-le (channels * h.size) out fits ∙ count_is
+
+-- the header ends within the input, so the next bit is there if the byte is
+first_bit : (s : List ℕ) {own : FrameHeader} (at : Place) → run_at header s (place_of 0) ≡ got_at own at → at.byte < length s → (v : ℕ) × (run_at (bits 1) s at ≡ got_at v (place_of (position at + 1)))
+first_bit s at e there = let i = stays_in header s (place_of 0) e in bits-there 1 i (omega (arith, there, i.bit))
+
+no_bit : (s : List ℕ) {own : FrameHeader} (at : Place) → run_at header s (place_of 0) ≡ got_at own at → length s ≤ at.byte → run_at (bits 1) s at ≡ short_at
+no_bit s at e past = bits-short 1 (stays_in header s (place_of 0) e) (omega (arith, past))
 
 pub overflow_mul-count : goal.overflow_mul-count
-overflow_mul-count c = omega (arith, count-few c)
+overflow_mul-count c = omega (arith, count_is c.complete-h.result c.channel_count-channels.ensures, few_samples c.args.set c.args.s.now (sym c.requires.1) c.complete-h.ensures)
 
 pub returns-then-not-bits_read : goal.returns-then-not-bits_read
-returns-then-not-bits_read c =
-    let d = c in let k = d.before.before in
-    no_bits (set k) (bytes k) (lent k) (ok k) (header_is k) (whole k) (sym d.bits_read_lem.ensures ∙ not-true d.bits_read_lem.result c.if-not-bits_read.true)
-
--- the bits are read
-module _ (c : goal.Else-not-bits_read) where
-  abbrev told : goal.After-channel_count-channels
-  told = c
-
-  some : bits_read (h told).bits ≡ true
-  some = sym c.bits_read_lem.ensures ∙ not-false c.bits_read_lem.result c.if-not-bits_read.false
-
--- they are the stream's
-equal : (c : goal.Else-not-bits_fit) → let k = told c in bits_fit (set k).stream (h k).bits ≡ true
-equal c = sym c.bits_fit.ensures ∙ not-false c.bits_fit.result c.if-not-bits_fit.false
+returns-then-not-bits_read c = no_bits c.args.set c.args.s.now c.args.out.now c.requires.0 (sym c.requires.1) c.complete-h.ensures (sym c.bits_read.ensures ∙ c.if-not-bits_read.true)
 
 pub returns-then-not-bits_fit : goal.returns-then-not-bits_fit
 returns-then-not-bits_fit c =
-    let d = c in let k = told d.before in
-    ⊎_elim
-    (λ w. other-bits (set k) (bytes k) (lent k) (ok k) (header_is k) (whole k) (some d.before) (sym d.bits_fit.ensures ∙ not-true d.bits_fit.result w.taken))
-    (λ w. larger_block (set k) (bytes k) (lent k) (ok k) (header_is k) (whole k) (some d.before) (equal (record { before = d; if2 = w.0 })) (sym w.1.ensures ∙ not-true w.1.result w.2.taken))
-    c.if-not-bits_fit.branch
-
--- the block fits the stream
-module _ (c : goal.Else-not-block_fits) where
-  abbrev deep : goal.Else-not-bits_read
-  deep = c
-
-  abbrev checked : goal.After-channel_count-channels
-  checked = told deep
-
-  within : block_fits (set checked).block (h checked).time (h checked).size ≡ true
-  within = sym c.block_fits.ensures ∙ not-false c.block_fits.result c.if-not-block_fits.false
+    elim c.then-not-bits_fit.branch [
+      then-not-bits_fit-via-then-not-bits_fit w ↦ other-bits c.args.set c.args.s.now c.args.out.now c.requires.0 (sym c.requires.1) c.complete-h.ensures (sym c.bits_read.ensures ∙ c.if-not-bits_read.false) (sym c.bits_fit.ensures ∙ w.if-not-bits_fit.true)
+    | then-not-bits_fit-via-else-not-bits_fit+then-not-block_fits w ↦
+        larger_block c.args.set c.args.s.now c.args.out.now c.requires.0 (sym c.requires.1) c.complete-h.ensures (sym c.bits_read.ensures ∙ c.if-not-bits_read.false) (sym c.bits_fit.ensures ∙ w.if-not-bits_fit.false) (sym w.block_fits.ensures ∙ w.if-not-block_fits.true)
+    ]
 
 pub returns-then-out-count : goal.returns-then-out-count
 returns-then-out-count c =
-    let e = c in let k = checked e in
-    no_room (set k) (bytes k) (lent k) (ok k) (header_is k) (whole k) (some (deep e)) (equal e.before.before) (within e) (omega (arith, count_is k, c.if-out-count.true))
-
--- there is room
-fits : (c : goal.Else-out-count) → sample_count (h (checked c)) ≤ length (lent (checked c))
-fits c = omega (arith, count_is (checked c), c.if-out-count.false)
-
--- the header ends within the input, so the next bit is there if the byte is
-module _ (k : goal.After-channel_count-channels) where
-  ends_in : In (bytes k) (start k).args.at
-  ends_in = stays_in header (bytes k) (place_of 0) (header_is k)
+    no_room c.args.set c.args.s.now c.args.out.now c.requires.0 (sym c.requires.1) c.complete-h.ensures (sym c.bits_read.ensures ∙ c.if-not-bits_read.false) (sym c.bits_fit.ensures ∙ c.if-not-bits_fit.false) (sym c.block_fits.ensures ∙ c.if-not-block_fits.false)
+    (omega (arith, count_is c.complete-h.result c.channel_count-channels.ensures, c.if-out-count.true))
 
 pub returns-then-s-at : goal.returns-then-s-at
 returns-then-s-at c =
-    let i = c in let e = i.before in let k = checked e in
-    no_first_bit (set k) (bytes k) (lent k) (ok k) (header_is k) (whole k) (some (deep e)) (equal e.before.before) (within e) (fits i) (bits-short 1 (ends_in k) (omega (arith, c.if-s-at.true)))
-
--- the first bit is there
-first_bit : (c : goal.Else-s-at) → let k = checked c in (v : ℕ) × (run_at (bits 1) (bytes k) (start k).args.at ≡ got_at v (place_of (position (start k).args.at + 1)))
-first_bit c = let k = checked c in bits-there 1 (ends_in k) (omega (arith, c.if-s-at.false, (ends_in k).bit))
+    no_first_bit c.args.set c.args.s.now c.args.out.now c.requires.0 (sym c.requires.1) c.complete-h.ensures (sym c.bits_read.ensures ∙ c.if-not-bits_read.false) (sym c.bits_fit.ensures ∙ c.if-not-bits_fit.false) (sym c.block_fits.ensures ∙ c.if-not-block_fits.false)
+    (omega (arith, count_is c.complete-h.result c.channel_count-channels.ensures, c.if-out-count.false)) (no_bit c.args.s.now c.args.at (sym c.requires.1) c.if-s-at.true)
 
 -- The product fits with the stream's size, and with the block's own: so a reader that takes its own is refused by the
 -- promise, and not here.
 pub first_sample-first-requires : goal.first_sample-first-requires
 first_sample-first-requires c =
-    let e = c in let k = checked e in let f = sound k (some (deep e)) in
-    search (rules, first_fits (set k).block _ (in_range_lem k) f.number, first_fits (StreamBlock.Known (h k).size) _ (size-in_range f.some f.size) f.number)
+    let f = sound c.args.set c.args.s.now (sym c.requires.1) c.complete-h.ensures (sym c.bits_read.ensures ∙ c.if-not-bits_read.false) in
+    search (rules, first_fits c.args.set.block _ (in_range_lem c.args.set c.requires.0) f.number, first_fits (StreamBlock.Known c.complete-h.result.size) _ (size-in_range f.some f.size) f.number)
 
 pub slice_bounds-decode_body-end-2 : goal.slice_bounds-decode_body-end-2
-slice_bounds-decode_body-end-2 c =
-    let i = c in let k = checked i.before in
-    sym (length-take-le (count k) (lent k) i.if4.false)
+slice_bounds-decode_body-end-2 c = sym (length-take-le (c.channel_count-channels.result * c.complete-h.result.size) c.args.out.now c.if-out-count.false)
 
 pub decode_body-decoded-requires : goal.decode_body-decoded-requires
 decode_body-decoded-requires c =
-    let i = c in let k = checked i.before in let f = sound k (some (deep i.before)) in
-    (f.mono, f.bits, part_is k i.if4.false)
+    let f = sound c.args.set c.args.s.now (sym c.requires.1) c.complete-h.ensures (sym c.bits_read.ensures ∙ c.if-not-bits_read.false) in
+    (f.mono, f.bits, part_is c.complete-h.result c.channel_count-channels.ensures c.args.out.now c.if-out-count.false)
 
--- a body whose decoding has begun
-module _ (c : goal.After-decode_body-decoded) where
-  abbrev after-bit : goal.Else-s-at
-  after-bit = c
+stands : (h : FrameHeader) {channels : ℕ} → channels ≡ channel_count h.channels → (out front : List ℤ) → front ++ drop (channels * h.size) out ≡ front ++ drop (sample_count h) out
+stands h counted out front = ap (λ n. front ++ drop n out) (count_is h counted)
 
-  abbrev inner : goal.Else-out-count
-  inner = after-bit.before.before
-
-  abbrev known : goal.After-channel_count-channels
-  known = checked inner.before
-
-  abbrev front : List ℤ
-  front = c.decode_body-decoded.new.1.1.1.0
-
-  part-long : length (take (count known) (lent known)) ≡ sample_count (h known)
-  part-long = part_is known inner.if4.left
-
-  long : length front ≡ sample_count (h known)
-  long = c.decode_body-decoded.auto.1.1.1.0 ∙ part-long
-
-  left : Left (run_at (body (h known)) (bytes known) (start known).args.at) (sample_count (h known)) c.decode_body-decoded.result front
-  left = subst (λ n. Left (run_at (body (h known)) (bytes known) (start known).args.at) n c.decode_body-decoded.result front) part-long c.decode_body-decoded.ensures
-
-  stands : front ++ drop (count known) (lent known) ≡ front ++ drop (sample_count (h known)) (lent known)
-  stands = ap (λ n. front ++ drop n (lent known)) (count_is known)
+-- a body whose decoding has begun: what was lent to it is put back
+module _ (h : FrameHeader) {channels : ℕ} (counted : channels ≡ channel_count h.channels) (s : List ℕ) (at : Place) (out : List ℤ) (fits : channels * h.size ≤ length out) {r : Decoded} (front : List ℤ) where
+  left : Left (run_at (body h) s at) (length (take (channels * h.size) out)) r front → Left (run_at (body h) s at) (sample_count h) r front
+  left l = subst (λ n. Left (run_at (body h) s at) n r front) (part_is h counted out fits) l
 
 pub returns-in-Done : goal.returns-in-Done
 returns-in-Done c =
-    let g = c in let d = g.before.before.before in let t = after-bit d in let k = known d in let e = (inner d).before in
-    body-read (set k) (bytes k) (lent k) (ok k) (header_is k) (whole k) (some (deep e)) (equal e.before.before) (within e) (fits (inner d)) (first_bit t).1
-    (left d) (stands d) g.decoded.given.1 (long d) d.before.before.first-sample.ensures k.channel-count.ensures
+    let h = c.complete-h.result in
+    let counted = c.channel_count-channels.ensures in
+    let front = c.decode_body-decoded.new.out in
+    body-read c.args.set c.args.s.now c.args.out.now c.requires.0 (sym c.requires.1) c.complete-h.ensures (sym c.bits_read.ensures ∙ c.if-not-bits_read.false) (sym c.bits_fit.ensures ∙ c.if-not-bits_fit.false) (sym c.block_fits.ensures ∙ c.if-not-block_fits.false)
+    (omega (arith, count_is h counted, c.if-out-count.false)) (first_bit c.args.s.now c.args.at (sym c.requires.1) c.if-s-at.false).1
+    (left h counted c.args.s.now c.args.at c.args.out.now c.if-out-count.false front c.decode_body-decoded.ensures) (stands h counted c.args.out.now front) c.in-Done.is
+    (c.decode_body-decoded.auto.out ∙ part_is h counted c.args.out.now c.if-out-count.false) c.first_sample-first.ensures counted
 
 pub returns-in-Refused : goal.returns-in-Refused
 returns-in-Refused c =
-    let g = c in let d = g.before.before.before in let t = after-bit d in let k = known d in let e = (inner d).before in
-    body_refused (set k) (bytes k) (lent k) (ok k) (header_is k) (whole k) (some (deep e)) (equal e.before.before) (within e) (fits (inner d)) (first_bit t).1
-    (left d) (stands d) g.decoded2.given.1
+    let h = c.complete-h.result in
+    let counted = c.channel_count-channels.ensures in
+    let front = c.decode_body-decoded.new.out in
+    body_refused c.args.set c.args.s.now c.args.out.now c.requires.0 (sym c.requires.1) c.complete-h.ensures (sym c.bits_read.ensures ∙ c.if-not-bits_read.false) (sym c.bits_fit.ensures ∙ c.if-not-bits_fit.false) (sym c.block_fits.ensures ∙ c.if-not-block_fits.false)
+    (omega (arith, count_is h counted, c.if-out-count.false)) (first_bit c.args.s.now c.args.at (sym c.requires.1) c.if-s-at.false).1
+    (left h counted c.args.s.now c.args.at c.args.out.now c.if-out-count.false front c.decode_body-decoded.ensures) (stands h counted c.args.out.now front) c.in-Refused.is

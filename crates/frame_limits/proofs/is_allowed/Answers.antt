@@ -1,5 +1,4 @@
 -- The settings, test by test as in the definition. Assumes nothing.
-use borrow.Author.Rules.{rules}
 use borrow.Author.Tests.{le-leb, lt-leb}
 use mathlib.Core.Path.{refl, sym, ◌∙◌}
 use Rattle.rfc9639.specs.Write.{allowed}

@@ -2,7 +2,6 @@
 use native.Mathlib.Omega.{arith}
 use mathlib.Core.Path.{◌≡◌, ap, ◌∙◌}
 use Prim.Native.Nat.{ℕ, ◌+◌, ◌*◌, ◌≤◌}
-use borrow.Author.Rules.{rules}
 use Rattle.rfc9639.specs.HeaderCodes.{largest_block_size, assignment, channel_count}
 use Rattle.frame_limits.proofs.MostBits.{each_fits, all-fits, most_independent, most-pair}
 use Rattle.frame_limits.proofs.most_bits.Goals as goal

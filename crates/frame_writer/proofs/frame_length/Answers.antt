@@ -1,5 +1,4 @@
 -- `frame_length` meets its contract: a header has at most 14 bytes. Assumes nothing.
-use borrow.Author.Rules.{rules}
 use native.Mathlib.Omega.{arith}
 use Rattle.rfc9639.proofs.LengthBound.{header_at-most}
 use Rattle.frame_writer.proofs.frame_length.Goals as goal

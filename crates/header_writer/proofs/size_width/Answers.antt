@@ -1,5 +1,4 @@
 -- No bits, 8 or 16, by the code as in the definition. Assumes nothing.
-use borrow.Author.Rules.{rules}
 use borrow.Author.Tests.{ne_eqb}
 use mathlib.Core.Path.{sym, ◌∙◌}
 use Rattle.reading.specs.NumbersAsBits.{bits_of}

@@ -1,5 +1,4 @@
 -- The first three bytes, and three more writes. Assumes nothing.
-use borrow.Author.Rules.{rules}
 use Rattle.reading.proofs.NumbersAsBits.{binary-bits_of}
 use Rattle.rfc9639.specs.Write.{code_bits}
 use Rattle.bit_writer.proofs.ConsecutiveWrites.{wrote-once, wrote_after, inked_then}

@@ -1,5 +1,4 @@
 -- The codes, the number and the size, one after the other. Assumes nothing.
-use borrow.Author.Rules.{rules}
 use Rattle.rfc9639.specs.Write.{field_bits}
 use Rattle.rfc9639.proofs.FrameBits.{bits-codes, bits-number}
 use Rattle.bit_writer.proofs.ConsecutiveWrites.{wrote-once, wrote_after, inked_then}

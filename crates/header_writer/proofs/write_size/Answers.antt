@@ -1,5 +1,4 @@
 -- The size less one, in as many bits as its code asks for. Assumes nothing.
-use borrow.Author.Rules.{rules}
 use Rattle.header_writer.proofs.write_size.Goals as goal
 
 pub returns : goal.returns

@@ -1,5 +1,4 @@
 -- Four consecutive writes. Assumes nothing.
-use borrow.Author.Rules.{rules}
 use Rattle.reading.proofs.NumbersAsBits.{binary-bits_of}
 use Rattle.rfc9639.specs.HeaderCodes.{sync_code}
 use Rattle.bit_writer.proofs.ConsecutiveWrites.{wrote-once, wrote_after, inked_then}

@@ -13,8 +13,7 @@ loop-i-init c = begin _ _ c.requires first right_of
 pub loop-i-preserved : goal.loop-i-preserved
 unfolding right_of
 loop-i-preserved c =
-    let k = c in
-    step_right k.loop.invariant (omega arith) (record { sfits = search rules }) (record { sfits = search rules }) c.wrapping_sub.result
+    step_right c.loop-i.invariant (omega arith) (record { sfits = search rules }) (record { sfits = search rules }) c.wrapping_sub.result
     (record { sfits = c.wrapping_sub.type_inv }) c.wrapping_sub.ensures
 
 pub shape_of-out : goal.shape_of-out

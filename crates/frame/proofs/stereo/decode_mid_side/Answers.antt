@@ -16,9 +16,8 @@ bounds-out-n c = simp length-set (omega (arith, c.loop-i.invariant.long))
 
 pub loop-i-preserved : goal.loop-i-preserved
 loop-i-preserved c =
-    let d = c in let k = d.before.before.before.before in
-    step_both k.loop.invariant (omega arith) (record { sfits = search rules }) (record { sfits = search rules }) d.left-of-mid.result c.right_of_mid.result
-    (record { sfits = d.left-of-mid.type_inv }) d.left-of-mid.ensures (record { sfits = c.right_of_mid.type_inv }) c.right_of_mid.ensures
+    step_both c.loop-i.invariant (omega arith) (record { sfits = search rules }) (record { sfits = search rules }) c.left_of_mid.result c.right_of_mid.result
+    (record { sfits = c.left_of_mid.type_inv }) c.left_of_mid.ensures (record { sfits = c.right_of_mid.type_inv }) c.right_of_mid.ensures
 
 pub shape_of-out : goal.shape_of-out
 shape_of-out c = omega (arith, c.loop-i.invariant.long, c.requires)

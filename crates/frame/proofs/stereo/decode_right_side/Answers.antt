@@ -13,8 +13,7 @@ loop-i-init c = begin _ _ c.requires left_of second
 pub loop-i-preserved : goal.loop-i-preserved
 unfolding left_of
 loop-i-preserved c =
-    let k = c in
-    step_left k.loop.invariant (omega arith) (record { sfits = search rules }) (record { sfits = search rules }) c.wrapping_add.result
+    step_left c.loop-i.invariant (omega arith) (record { sfits = search rules }) (record { sfits = search rules }) c.wrapping_add.result
     (record { sfits = c.wrapping_add.type_inv }) c.wrapping_add.ensures
 
 pub shape_of-out : goal.shape_of-out

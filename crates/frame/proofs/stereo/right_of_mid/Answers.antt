@@ -12,6 +12,5 @@ overflow_cast-difference c = widen_fits {z = c.wrapping_sub-difference.result} (
 pub returns : goal.returns
 unfolding right_of_mid
 returns c =
-    let d = c in let u = d.before in let t = u.before in let f = t.before.ranges in
-    half_of (λ (a b : ℤ). a -ℤ b) f.mid f.side (record { sfits = t.doubled.type_inv }) (record { sfits = u.wrapping-sub.type_inv }) (record { sfits = d.shift-down.type_inv })
-    (record { sfits = c.low32.type_inv }) t.doubled.ensures u.wrapping-sub.ensures d.shift-down.ensures c.low32.ensures
+    half_of (λ (a b : ℤ). a -ℤ b) c.ranges.mid c.ranges.side (record { sfits = c.doubled.type_inv }) (record { sfits = c.wrapping_sub-difference.type_inv }) (record { sfits = c.shift_down.type_inv })
+    (record { sfits = c.low32.type_inv }) c.doubled.ensures c.wrapping_sub-difference.ensures c.shift_down.ensures c.low32.ensures

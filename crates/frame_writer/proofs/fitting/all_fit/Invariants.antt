@@ -1,11 +1,8 @@
 -- `all_fit` meets its contract: a turn for each sample. Assumes nothing.
 use Prim.Native.Nat.{◌-◌, ◌≤◌}
-use borrow.Author.Rules.{rules}
-use mathlib.Core.Path.{◌≡◌, refl, sym, ◌∙◌}
+use mathlib.Core.Path.{◌≡◌}
 use lib.ListN.{length, drop}
 use Rattle.rfc9639.specs.Write.{all_fit}
-use Rattle.frame_writer.proofs.SampleFit.{fit_fails, fit_next, fit-end}
-use borrow.Author.Tests.{not-true, not-false}
 use Rattle.frame_writer.proofs.fitting.all_fit.Given as goal
 
 abbrev pub invariant-loop-i : goal.invariant-loop-i

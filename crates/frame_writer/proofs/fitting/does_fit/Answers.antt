@@ -1,5 +1,4 @@
 -- `does_fit` meets its contract: a sample fits where its folded form is below the power of two. Assumes nothing.
-use borrow.Author.Rules.{rules}
 use native.Mathlib.Omega.{arith}
 use mathlib.Core.Path.{sym, ◌∙◌, ap, ap₂}
 use lib.Dec.{ltb}

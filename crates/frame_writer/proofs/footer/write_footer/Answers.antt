@@ -1,8 +1,5 @@
 -- `write_footer` meets its contract: the padding, then the CRC-16. Assumes nothing.
-use Prim.Native.Nat.{◌≤◌}
 use mathlib.Core.Path.{ap, sym, ◌∙◌}
-use borrow.Author.Rules.{rules}
-use lib.ListN.{length}
 use lib.Seq.{length-take-le}
 use Rattle.reading.specs.NumbersAsBits.{bits_of}
 use Rattle.bit_writer.specs.PenWrites.{inked}
@@ -11,18 +8,20 @@ use Rattle.frame_writer.proofs.FrameEnd.{filled_within}
 use Rattle.frame_writer.proofs.footer.write_footer.Goals as goal
 
 -- the pen stays within the output
-within : (c : goal.After-write_bits-after_padding) → c.write_bits-after_padding.result.byte ≤ length c.write_bits-after_padding.new.0
-unfolding filled
-within c = let r = c.requires in filled_within _ _ (record { few = r.0; low = r.1 }) r.2 c.write_bits-after_padding.ensures
-
 pub slice_bounds-crc16-end : goal.slice_bounds-crc16-end
-slice_bounds-crc16-end c = within c
+unfolding filled
+slice_bounds-crc16-end c =
+    let r = c.requires in
+    filled_within _ _ (record { few = r.0; low = r.1 }) r.2 c.write_bits-after_padding.ensures
 
 pub slice_bounds-crc16-end-2 : goal.slice_bounds-crc16-end-2
-slice_bounds-crc16-end-2 c = sym (length-take-le _ _ (within c))
+unfolding filled
+slice_bounds-crc16-end-2 c =
+    let r = c.requires in
+    sym (length-take-le _ _ (filled_within _ _ (record { few = r.0; low = r.1 }) r.2 c.write_bits-after_padding.ensures))
 
 pub returns : goal.returns
 unfolding summed filled
 returns c =
-    let w = c in let s = w.before.before in let p = s.before.before.before.before.write-bits in
-    w.write-bits2.ensures ∙ ap (λ z. inked (bits_of 16 z) p.result p.new.0) s.crc16.ensures ∙ ap summed p.ensures
+    let p = c.write_bits-after_padding in
+    c.write_bits.ensures ∙ ap (λ z. inked (bits_of 16 z) p.result p.new.out) c.crc16-sum.ensures ∙ ap summed p.ensures

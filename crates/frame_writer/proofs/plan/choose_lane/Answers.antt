@@ -1,5 +1,4 @@
 -- `choose_lane` meets its contract: the choice for a subframe is that for its lane. Assumes nothing.
-use borrow.Author.Rules.{rules}
 use Rattle.frame_writer.proofs.SubframeChoices.{chosen-lane}
 use Rattle.frame_writer.proofs.plan.choose_lane.Goals as goal
 

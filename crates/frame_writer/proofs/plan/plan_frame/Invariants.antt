@@ -1,13 +1,9 @@
 -- `plan_frame` meets its contract: a turn for each subframe (Planned, Counted). Assumes nothing.
-use Prim.Native.Nat.{◌+◌, ◌-◌}
-use native.Mathlib.Omega.{arith}
-use borrow.Author.Rules.{rules}
-use mathlib.Core.Path.{refl}
+use Prim.Native.Nat.{◌-◌}
 use Rattle.rfc9639.specs.HeaderCodes.{assignment}
-use Rattle.rfc9639.proofs.Lists.{channels_between}
 use Rattle.frame_writer.specs.Private.{lane_choice, lane_for}
-use Rattle.frame_writer.proofs.SubframeChoices.{Planned, begin, step, at_end, planned_all}
-use Rattle.frame_writer.proofs.SubframeBits.{Counted, counted_none, counted-more, counted-all}
+use Rattle.frame_writer.proofs.SubframeChoices.{Planned}
+use Rattle.frame_writer.proofs.SubframeBits.{Counted}
 use Rattle.frame_writer.proofs.plan.plan_frame.Given as goal
 
 abbrev pub invariant-loop-c : goal.invariant-loop-c

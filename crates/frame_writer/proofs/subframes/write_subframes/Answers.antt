@@ -1,12 +1,11 @@
 -- `write_subframes` meets its contract: a turn for each subframe, as planned (Rows). Assumes nothing.
-use Prim.Native.Nat.{◌-◌, ◌≤◌, ◌<◌}
+use Prim.Native.Nat.{◌<◌}
 use native.Mathlib.Omega.{arith}
 use mathlib.Core.Path.{sym}
-use borrow.Author.Rules.{rules}
 use Rattle.rfc9639.specs.HeaderCodes.{assignment, channel_count}
-use Rattle.rfc9639.specs.Write.{lanes, lane_bits, subframes_bits}
+use Rattle.rfc9639.specs.Write.{subframes_bits}
 use Rattle.rfc9639.proofs.Lists.{length-lanes, channels_between}
-use Rattle.bit_writer.proofs.RowLoops.{Unwritten, begin, end}
+use Rattle.bit_writer.proofs.RowLoops.{begin, end}
 use Rattle.frame_writer.proofs.SubframeWrites.{planned_at, lane-next}
 use Rattle.frame_writer.proofs.subframes.write_subframes.Goals as goal
 
@@ -15,12 +14,9 @@ loop-c-init c = (rw c.channels_of_code-count.ensures (channels_between _).1, ome
 
 pub loop-c-preserved : goal.loop-c-preserved
 loop-c-preserved c =
-    let w = c in let i = w.before.before.before in let l = i.before in let n = l.before in
-    let more : l.loop.c < channel_count (assignment n.before.before.args.set.channels) = omega (arith, n.channels-of-code.ensures) in
-    (l.loop.invariant.0, omega arith, lane-next _ _ _ _ l.loop.invariant.2 more (planned_at _ _ _ _ _ n.before.before.requires.1 _ _ more) w.write-lane.ensures)
-
-pub shape_of-out : goal.shape_of-out
-shape_of-out c = c.loop-c.invariant.2.long
+    let i = c.loop-c.invariant in
+    let more : c.loop-c.c < channel_count (assignment c.args.set.channels) = omega (arith, c.channels_of_code-count.ensures) in
+    (i.0, omega arith, lane-next _ _ _ _ i.2 more (planned_at _ _ _ _ _ c.requires.1 _ _ more) c.write_lane-p.ensures)
 
 pub returns : goal.returns
 unfolding subframes_bits

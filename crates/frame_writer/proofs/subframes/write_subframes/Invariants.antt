@@ -1,13 +1,8 @@
 -- `write_subframes` meets its contract: a turn for each subframe, as planned (Rows). Assumes nothing.
-use Prim.Native.Nat.{◌-◌, ◌≤◌, ◌<◌}
-use native.Mathlib.Omega.{arith}
-use mathlib.Core.Path.{sym}
-use borrow.Author.Rules.{rules}
-use Rattle.rfc9639.specs.HeaderCodes.{assignment, channel_count}
-use Rattle.rfc9639.specs.Write.{lanes, lane_bits, subframes_bits}
-use Rattle.rfc9639.proofs.Lists.{length-lanes, channels_between}
-use Rattle.bit_writer.proofs.RowLoops.{Unwritten, begin, end}
-use Rattle.frame_writer.proofs.SubframeWrites.{planned_at, lane-next}
+use Prim.Native.Nat.{◌-◌, ◌≤◌}
+use Rattle.rfc9639.specs.HeaderCodes.{assignment}
+use Rattle.rfc9639.specs.Write.{lanes, lane_bits}
+use Rattle.bit_writer.proofs.RowLoops.{Unwritten}
 use Rattle.frame_writer.proofs.subframes.write_subframes.Given as goal
 
 abbrev pub invariant-loop-c : goal.invariant-loop-c

@@ -1,5 +1,4 @@
 -- The form of a number, test by test as in the definition. Assumes nothing.
-use borrow.Author.Rules.{rules}
 use borrow.Author.Tests.{lt-ltb, le-ltb}
 use native.Mathlib.Omega.{arith}
 use Rattle.rfc9639.specs.Write.{followers, number_bytes}

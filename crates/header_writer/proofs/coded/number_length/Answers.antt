@@ -1,6 +1,5 @@
 -- The first byte, and those that follow it. Assumes nothing.
 use Prim.Native.Nat.{suc}
-use borrow.Author.Rules.{rules}
 use native.Mathlib.Numerals.{add-one}
 use mathlib.Core.Path.{ap, sym, ◌∙◌}
 use lib.ListN.{length}

@@ -1,6 +1,6 @@
 -- The loop inks the bytes after the first, the highest bits first; its invariant is Following. Assumes nothing.
 use borrow.Author.Rules.{rules}
-use Rattle.header_writer.proofs.WrittenNumber.{Following, begin, step, end}
+use Rattle.header_writer.proofs.WrittenNumber.{begin, step, end}
 use Rattle.header_writer.proofs.coded.write_followers.Goals as goal
 
 pub loop-left-init : goal.loop-left-init

@@ -1,6 +1,5 @@
 -- The loop inks the bytes after the first, the highest bits first; its invariant is Following. Assumes nothing.
-use borrow.Author.Rules.{rules}
-use Rattle.header_writer.proofs.WrittenNumber.{Following, begin, step, end}
+use Rattle.header_writer.proofs.WrittenNumber.{Following}
 use Rattle.header_writer.proofs.coded.write_followers.Given as goal
 
 abbrev pub invariant-loop-left : goal.invariant-loop-left

@@ -1,5 +1,4 @@
 -- The first byte, then those that follow it. Assumes nothing.
-use borrow.Author.Rules.{rules}
 use mathlib.Core.Path.{◌∙◌}
 use Rattle.header_writer.proofs.WrittenNumber.{byte-first}
 use Rattle.header_writer.proofs.coded.write_number.Goals as goal
