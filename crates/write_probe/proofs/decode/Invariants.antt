@@ -1,8 +1,7 @@
 -- `write_probe::decode` stays within the bytes, of which there are four for each sample. Assumes nothing.
 use Prim.Native.Nat.{◌-◌, ◌≤◌}
 use mathlib.Core.Path.{◌≡◌}
-use borrow.Author.Rules.{rules}
-use lib.ListN.{length, length-set}
+use lib.ListN.{length}
 use Rattle.write_probe.proofs.decode.Given as goal
 
 abbrev pub invariant-loop-i : goal.invariant-loop-i

@@ -1,8 +1,7 @@
 -- `write_probe::fill` stays within the output that it is lent. Assumes nothing.
 use Prim.Native.Nat.{◌-◌, ◌≤◌}
 use mathlib.Core.Path.{◌≡◌}
-use borrow.Author.Rules.{rules}
-use lib.ListN.{length, length-set}
+use lib.ListN.{length}
 use Rattle.write_probe.proofs.fill.Given as goal
 
 abbrev pub invariant-loop-i : goal.invariant-loop-i
