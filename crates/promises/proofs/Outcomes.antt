@@ -20,7 +20,7 @@ use Rattle.frame_writer.specs.contracts.write_frame as write_frame
 use Rattle.frame_writer.proofs.write_frame.Reads as write_frame_reads
 
 -- the settings among the arguments of `write_frame`
-abbrev setting_of : (κs : Lfts (write_frame.ended).signature.lifetimes) → Args (write_frame.ended).signature κs → FrameSetting
+abbrev setting_of : (κs : Lfts write_frame.ended.signature.lifetimes) → Args write_frame.ended.signature κs → FrameSetting
 setting_of κs args = record {
   channels = args.1.0;
   bits = args.1.1.0;
@@ -35,8 +35,8 @@ setting_of κs args = record {
 -- an outcome of `read_frame(s, given, samples)`, where the samples held b: it answers r, and the samples hold `left`
 -- afterwards
 pub record ReadFrame (given : Settings) (s : List ℕ) (b : List ℤ) (r : ReadAnswer) (left : List ℤ) : Type 0 where
-  pub κs : Lfts (read_frame.ended).signature.lifetimes
-  pub args : Args (read_frame.ended).signature κs
+  pub κs : Lfts read_frame.ended.signature.lifetimes
+  pub args : Args read_frame.ended.signature κs
   pub bytes : args.0.now ≡ s
   pub settings : args.1.0 ≡ given
   pub lent : args.1.1.0.now ≡ b
@@ -51,8 +51,8 @@ reads {given} {s} {b} {r} {left} o =
 
 -- an outcome of `write_frame(xs, .. settings .., out)`: it answers r, and the output holds `left` afterwards
 pub record WriteFrame (set : FrameSetting) (xs : List ℤ) (out : List ℕ) (r : WriteAnswer) (left : List ℕ) : Type 0 where
-  pub κs : Lfts (write_frame.ended).signature.lifetimes
-  pub args : Args (write_frame.ended).signature κs
+  pub κs : Lfts write_frame.ended.signature.lifetimes
+  pub args : Args write_frame.ended.signature κs
   pub samples : args.0.now ≡ xs
   pub settings : setting_of κs args ≡ set
   pub lent : args.1.1.1.1.1.1.0.now ≡ out

@@ -32,8 +32,8 @@ use Rattle.stream.proofs.read_stream_header.Reads as read_stream_header_reads
 
 -- an outcome of `read_stream_header(s)`: it answers r. The contract is the one that Rattle reads off the source.
 pub record ReadStreamHeader (s : List ℕ) (r : StreamRead) : Type 0 where
-  pub κs : Lfts (read_stream_header.ended).signature.lifetimes
-  pub args : Args (read_stream_header.ended).signature κs
+  pub κs : Lfts read_stream_header.ended.signature.lifetimes
+  pub args : Args read_stream_header.ended.signature κs
   pub bytes : args.0.now ≡ s
   pub meets : read_stream_header_reads.Learnt κs args r (at_exit read_stream_header.ended κs args (tt, tt))
 

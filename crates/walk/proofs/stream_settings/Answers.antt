@@ -8,8 +8,7 @@ use Rattle.walk.proofs.NextPlace.{no_header-settings}
 use Rattle.walk.proofs.stream_settings.Goals as goal
 
 pub returns-in-Header : goal.returns-in-Header
-returns-in-Header c = let g = c in sym (header-settings _ (answer_is header_at g.before.before.read-header.ensures g.first.given.1))
+returns-in-Header c = sym (header-settings _ (answer_is header_at c.read_header-first.ensures c.in-Header.is))
 
 pub returns-in-Refused : goal.returns-in-Refused
-returns-in-Refused c =
-    sym (no_header-settings _ c.enum_told-1.given.0.0 (answer_is header_at c.read_header-first.ensures c.enum_told-1.given.1))
+returns-in-Refused c = sym (no_header-settings _ _ (answer_is header_at c.read_header-first.ensures c.in-Refused.is))
