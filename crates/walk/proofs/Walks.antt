@@ -14,7 +14,7 @@ use Rattle.rfc9639.specs.FrameByFrame.{Verdict, accept, undecided, refuse, verdi
 use Rattle.demands.proofs.FrameByFrame.{accept-zero, Lawful, answers_unrolled, lawful}
 use Rattle.frame.specs.declared.Accepted.{Accepted}
 use Rattle.frame.specs.declared.ReadAnswer.{ReadAnswer}
-use Rattle.frame.specs.Reads.{report_of, Reads}
+use Rattle.frame.specs.Reads.{report_of}
 use Rattle.walk.specs.declared.Step.{Step}
 use Rattle.walk.specs.Steps.{Steps}
 

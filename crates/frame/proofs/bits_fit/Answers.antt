@@ -1,5 +1,4 @@
 -- Whether a frame's bits are the stream's, by the case of the stream's record. Assumes nothing.
-use borrow.Author.Rules.{rules}
 use Rattle.rfc9639.specs.Stream.{bits_fit}
 use Rattle.frame.proofs.bits_fit.Goals as goal
 

@@ -1,5 +1,4 @@
 -- Whether a stream can have samples of some bits, by the case of its record. Assumes nothing.
-use borrow.Author.Rules.{rules}
 use borrow.Author.Tests.{le-leb, lt-leb}
 use Rattle.rfc9639.specs.Stream.{bits_in_range}
 use Rattle.frame.proofs.bits_in_range.Goals as goal

@@ -1,6 +1,5 @@
 -- Whether a block belongs to the stream, by the cases of the stream's block and of the time. Assumes nothing.
 use mathlib.Core.Path.{sym}
-use borrow.Author.Rules.{rules}
 use Rattle.frame.proofs.StreamBlocks.{fits-unknown, fits-fixed, fits_variable}
 use Rattle.frame.proofs.block_fits.Goals as goal
 

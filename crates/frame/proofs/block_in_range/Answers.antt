@@ -1,5 +1,4 @@
 -- Whether a stream can have blocks of a size, by the case of the block. Assumes nothing.
-use borrow.Author.Rules.{rules}
 use borrow.Author.Tests.{lt-ltb, le-ltb}
 use Rattle.rfc9639.specs.Stream.{in_range}
 use Rattle.frame.proofs.block_in_range.Goals as goal

@@ -1,5 +1,4 @@
 -- A header with the values of the stream filled in, by the case of the stream's record. Assumes nothing.
-use borrow.Author.Rules.{rules}
 use Rattle.rfc9639.specs.Stream.{completed}
 use Rattle.frame.proofs.complete.Goals as goal
 

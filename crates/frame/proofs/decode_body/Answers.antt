@@ -1,14 +1,8 @@
 -- The channels, then the footer: zeros if one is refused, else the channels as they were recorded. Assumes nothing.
-use mathlib.Core.Path.{◌≡◌, ap, ◌∙◌}
-use mathlib.Core.List.{List}
-use borrow.Author.Rules.{rules}
-use lib.IntN.{ℤ, pos}
+use mathlib.Core.Path.{ap, ◌∙◌}
+use lib.IntN.{pos}
 use lib.ListN.{length, replicate}
-use Rattle.reading.specs.Readers.{each}
-use Rattle.reading.specs.Places.{got_at, run_at}
 use Rattle.rfc9639.specs.Header.{sample_count}
-use Rattle.rfc9639.specs.Subframe.{subframe}
-use Rattle.rfc9639.specs.Frame.{widths}
 use Rattle.subframe.proofs.SliceParts.{done_is}
 use Rattle.header.specs.Answers.{checked_at}
 use Rattle.header.proofs.ReaderSteps.{answer_is}

@@ -1,14 +1,13 @@
 -- Each turn lends the next part of the buffer to the decoder of a channel. Assumes nothing.
-use Prim.Native.Nat.{ℕ, ◌-◌, ◌*◌, ◌≤◌, ◌<◌}
+use Prim.Native.Nat.{ℕ, ◌*◌, ◌≤◌, ◌<◌}
 use native.Mathlib.Omega.{arith}
 use mathlib.Core.Path.{◌≡◌, ap, sym, ◌∙◌}
-use borrow.Author.Rules.{rules}
 use lib.ListN.{length, get_or}
 use Rattle.rfc9639.specs.declared.FrameHeader.{FrameHeader}
 use Rattle.rfc9639.specs.HeaderCodes.{channel_count}
 use Rattle.rfc9639.specs.Header.{sample_count}
 use Rattle.rfc9639.specs.Frame.{widths}
-use Rattle.frame.proofs.FrameBody.{length-widths, width_few, PartsRead, begin, part-fits, part-back, step, stops, end}
+use Rattle.frame.proofs.FrameBody.{length-widths, width_few, begin, part-fits, part-back, step, stops, end}
 use Rattle.frame.proofs.decode_channels.Goals as goal
 
 -- as many widths as channels

@@ -1,6 +1,5 @@
 -- The number of a frame's first sample, as the definition has it. Assumes nothing.
 use mathlib.Core.Path.{sym}
-use borrow.Author.Rules.{rules}
 use Rattle.frame.proofs.StreamBlocks.{first_sample-number, first-unknown, first_known_lem}
 use Rattle.frame.proofs.first_sample.Goals as goal
 

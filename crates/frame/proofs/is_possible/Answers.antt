@@ -1,6 +1,5 @@
 -- Whether a stream can have these settings: its block, and then its record. Assumes nothing.
 use mathlib.Core.Path.{sym, ◌∙◌}
-use borrow.Author.Rules.{rules}
 use Rattle.rfc9639.specs.Stream.{possible}
 use Rattle.frame.proofs.is_possible.Goals as goal
 

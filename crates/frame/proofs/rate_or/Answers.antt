@@ -1,5 +1,4 @@
 -- The frame's own rate, or else the stream's, by the case of its own. Assumes nothing.
-use borrow.Author.Rules.{rules}
 use Rattle.rfc9639.specs.Stream.{rate_or}
 use Rattle.frame.proofs.rate_or.Goals as goal
 

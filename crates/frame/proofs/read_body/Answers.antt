@@ -3,17 +3,15 @@ use Prim.Native.Nat.{ℕ, ◌+◌, ◌*◌, ◌≤◌, ◌<◌}
 use native.Mathlib.Nat.{mul-le-mul}
 use native.Mathlib.Omega.{arith}
 use mathlib.Core.Bool.{true}
-use mathlib.Core.Logic.{⊎_elim}
 use mathlib.Core.Path.{◌≡◌, ap, sym, ◌∙◌, subst}
 use mathlib.Core.List.{List, ◌++◌}
 use borrow.Author.Rules.{rules}
-use borrow.Author.Tests.{not-true, not-false}
 use lib.IntN.{ℤ}
 use lib.ListN.{length, take, drop}
 use lib.Seq.{length-take-le}
 use Rattle.reading.specs.Readers.{bits}
 use Rattle.reading.specs.Places.{position, got_at, short_at, place_of, run_at}
-use Rattle.reading.proofs.ByteRuns.{In, stays_in, and_fst}
+use Rattle.reading.proofs.ByteRuns.{stays_in, and_fst}
 use Rattle.reading.proofs.BitsTaken.{bits-there, bits-short}
 use Rattle.reading.specs.declared.Place.{Place}
 use Rattle.subframe.specs.declared.Decoded.{Decoded}
@@ -22,7 +20,7 @@ use Rattle.rfc9639.specs.declared.FrameHeader.{FrameHeader}
 use Rattle.rfc9639.specs.declared.Settings.{Settings}
 use Rattle.rfc9639.specs.declared.StreamBlock.{StreamBlock}
 use Rattle.rfc9639.specs.Header.{header, sample_count}
-use Rattle.rfc9639.specs.Stream.{in_range, bits_in_range, possible, completed, bits_read, bits_fit, block_fits}
+use Rattle.rfc9639.specs.Stream.{in_range, bits_in_range, possible, completed, bits_read}
 use Rattle.rfc9639.specs.Frame.{body}
 use Rattle.demands.proofs.Headers.{Sound, header-sound}
 use Rattle.demands.proofs.StreamRecords.{completed-count, completed-sound, read_bits_lem}
@@ -74,9 +72,9 @@ returns-then-not-bits_read c = no_bits c.args.set c.args.s.now c.args.out.now c.
 pub returns-then-not-bits_fit : goal.returns-then-not-bits_fit
 returns-then-not-bits_fit c =
     elim c.then-not-bits_fit.branch [
-      then-not-bits_fit-via-then-not-bits_fit w ↦ other-bits c.args.set c.args.s.now c.args.out.now c.requires.0 (sym c.requires.1) c.complete-h.ensures (sym c.bits_read.ensures ∙ c.if-not-bits_read.false) (sym c.bits_fit.ensures ∙ w.if-not-bits_fit.true)
-    | then-not-bits_fit-via-else-not-bits_fit+then-not-block_fits w ↦
-        larger_block c.args.set c.args.s.now c.args.out.now c.requires.0 (sym c.requires.1) c.complete-h.ensures (sym c.bits_read.ensures ∙ c.if-not-bits_read.false) (sym c.bits_fit.ensures ∙ w.if-not-bits_fit.false) (sym w.block_fits.ensures ∙ w.if-not-block_fits.true)
+      | then-not-bits_fit-via-then-not-bits_fit w ↦ other-bits c.args.set c.args.s.now c.args.out.now c.requires.0 (sym c.requires.1) c.complete-h.ensures (sym c.bits_read.ensures ∙ c.if-not-bits_read.false) (sym c.bits_fit.ensures ∙ w.if-not-bits_fit.true)
+      | then-not-bits_fit-via-else-not-bits_fit+then-not-block_fits w ↦
+          larger_block c.args.set c.args.s.now c.args.out.now c.requires.0 (sym c.requires.1) c.complete-h.ensures (sym c.bits_read.ensures ∙ c.if-not-bits_read.false) (sym c.bits_fit.ensures ∙ w.if-not-bits_fit.false) (sym w.block_fits.ensures ∙ w.if-not-block_fits.true)
     ]
 
 pub returns-then-out-count : goal.returns-then-out-count

@@ -1,9 +1,5 @@
 -- The whole frame: bad settings, an empty input, no header, or a header and what follows it. Assumes nothing.
-use mathlib.Core.Bool.{true}
-use mathlib.Core.Path.{◌≡◌, ap, sym, ◌∙◌}
-use borrow.Author.Rules.{rules}
-use borrow.Author.Tests.{not-true, not-false}
-use Rattle.rfc9639.specs.Stream.{possible}
+use mathlib.Core.Path.{ap, sym, ◌∙◌}
 use Rattle.header.specs.Answers.{header_at}
 use Rattle.error.specs.Numbers.{refused_by}
 use Rattle.header.proofs.ReaderSteps.{answer_is}

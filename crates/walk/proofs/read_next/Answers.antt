@@ -1,5 +1,4 @@
 -- `walk::read_next` meets its contract: it reads the bytes from the place on, and moves past them. Assumes nothing.
-use borrow.Author.Rules.{rules}
 use Prim.Native.Nat.{ℕ, ◌-◌, min}
 use native.Mathlib.Omega.{arith}
 use mathlib.Core.Path.{◌≡◌, subst}

@@ -1,6 +1,5 @@
 -- The settings that a stream gives, by its first header or without one. Assumes nothing.
 use mathlib.Core.Path.{sym}
-use borrow.Author.Rules.{rules}
 use Rattle.header.specs.Answers.{header_at}
 use Rattle.header.proofs.ReaderSteps.{answer_is}
 use Rattle.demands.proofs.StreamSettings.{header-settings}

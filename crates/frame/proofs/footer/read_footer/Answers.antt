@@ -1,13 +1,8 @@
 -- The padding and the stored sum, as the definition reads them. Assumes nothing.
-use Prim.Native.Nat.{◌-◌, ◌%◌}
 use native.Mathlib.Omega.{arith}
-use mathlib.Core.Path.{◌≡◌, sym, ◌∙◌}
-use borrow.Author.Tests.{not-true, not-false}
-use borrow.Author.Rules.{rules}
+use mathlib.Core.Path.{sym, ◌∙◌}
 use lib.Seq.{length-take-le}
-use Rattle.reading.specs.Readers.{bits}
-use Rattle.reading.specs.Places.{got_at, run_at}
-use Rattle.reading.proofs.ByteRuns.{In, inside_in, run_at-out}
+use Rattle.reading.proofs.ByteRuns.{inside_in, run_at-out}
 use Rattle.input.proofs.Callers.{read-got, read_short}
 use Rattle.rfc9639.specs.CheckSums.{crc16}
 use Rattle.header.proofs.StoredSum.{sum-short, sum_differs, sum_fits}

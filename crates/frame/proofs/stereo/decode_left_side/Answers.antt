@@ -1,10 +1,9 @@
 -- The loop of `decode_left_side`: after i turns the first i pairs are joined. Assumes nothing.
-use Prim.Native.Nat.{◌-◌}
 use native.Mathlib.Omega.{arith}
 use mathlib.Core.Path.{◌∙◌}
 use borrow.Author.Rules.{rules}
 use Rattle.rfc9639.specs.Stereo.{right_of}
-use Rattle.frame.proofs.StereoPairs.{first, PairsJoined, begin, step_right, end, pairs-left-side}
+use Rattle.frame.proofs.StereoPairs.{first, begin, step_right, end, pairs-left-side}
 use Rattle.frame.proofs.stereo.decode_left_side.Goals as goal
 
 pub loop-i-init : goal.loop-i-init

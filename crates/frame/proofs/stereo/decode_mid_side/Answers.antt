@@ -1,11 +1,10 @@
 -- The loop of `decode_mid_side`: after i turns the first i pairs are joined. Assumes nothing.
-use Prim.Native.Nat.{◌-◌}
 use native.Mathlib.Omega.{arith}
 use mathlib.Core.Path.{◌∙◌}
 use borrow.Author.Rules.{rules}
 use lib.ListN.{length-set}
 use Rattle.rfc9639.specs.Stereo.{left_of_mid, right_of_mid}
-use Rattle.frame.proofs.StereoPairs.{PairsJoined, begin, step_both, end, pairs-mid-side}
+use Rattle.frame.proofs.StereoPairs.{begin, step_both, end, pairs-mid-side}
 use Rattle.frame.proofs.stereo.decode_mid_side.Goals as goal
 
 pub loop-i-init : goal.loop-i-init

@@ -1,10 +1,9 @@
 -- The loop of `decode_right_side`: after i turns the first i pairs are joined. Assumes nothing.
-use Prim.Native.Nat.{◌-◌}
 use native.Mathlib.Omega.{arith}
 use mathlib.Core.Path.{◌∙◌}
 use borrow.Author.Rules.{rules}
 use Rattle.rfc9639.specs.Stereo.{left_of}
-use Rattle.frame.proofs.StereoPairs.{second, PairsJoined, begin, step_left, end, pairs-side_right}
+use Rattle.frame.proofs.StereoPairs.{second, begin, step_left, end, pairs-side_right}
 use Rattle.frame.proofs.stereo.decode_right_side.Goals as goal
 
 pub loop-i-init : goal.loop-i-init

@@ -1,9 +1,8 @@
 -- `doubled`: the low bit and the sum are exact in 64 bits, of which 32 are kept. Assumes nothing.
 use mathlib.Core.Path.{◌≡◌, ap, ap₂, ◌∙◌}
-use borrow.Author.Rules.{rules}
 use lib.IntN.{ℤ, pos, ◌+ℤ◌, ◌-ℤ◌, ◌*ℤ◌}
 use mir.Syntax.{w32, w64}
-use mir.Val.{SFits, to_z, of_z}
+use mir.Val.{SFits}
 use mir.Facts.{to_z-of_z}
 use Rattle.rfc9639.specs.Integers.{low, wrapped, shift_down}
 use Rattle.rfc9639.specs.Stereo.{doubled}

@@ -1,5 +1,4 @@
 -- `right_of_mid`: half of a number that fits 32 bits fits them too. Assumes nothing.
-use borrow.Author.Rules.{rules}
 use lib.IntN.{ℤ, ◌-ℤ◌}
 use Rattle.rfc9639.specs.Stereo.{right_of_mid}
 use Rattle.rfc9639.proofs.MachineIntegers.{widen_fits}
