@@ -1,8 +1,7 @@
 -- `read_probe::probe` stays within the samples that it is lent. Assumes nothing.
 use Prim.Native.Nat.{◌-◌, ◌≤◌}
 use mathlib.Core.Path.{◌≡◌}
-use borrow.Author.Rules.{rules}
-use lib.ListN.{length, length-set}
+use lib.ListN.{length}
 use Rattle.read_probe.proofs.probe.Given as goal
 
 abbrev pub invariant-loop-i : goal.invariant-loop-i

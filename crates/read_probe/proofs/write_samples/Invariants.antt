@@ -1,9 +1,7 @@
 -- `read_probe::write_samples` stays within its array, which has four bytes for each sample. Assumes nothing.
 use Prim.Native.Nat.{◌-◌, ◌≤◌}
-use mathlib.Core.Path.{◌≡◌, sym}
-use borrow.Author.Rules.{rules}
-use lib.ListN.{length, length-set}
-use lib.Seq.{length-take-le}
+use mathlib.Core.Path.{◌≡◌}
+use lib.ListN.{length}
 use Rattle.read_probe.proofs.write_samples.Given as goal
 
 abbrev pub invariant-loop-i : goal.invariant-loop-i

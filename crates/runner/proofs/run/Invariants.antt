@@ -1,7 +1,6 @@
 -- `runner::run` ends, since each step but the last moves on and stays within the bytes. Assumes nothing.
 use Prim.Native.Nat.{◌-◌, ◌≤◌}
 use mathlib.Core.Path.{◌≡◌}
-use borrow.Author.Rules.{rules}
 use lib.ListN.{length}
 use Rattle.runner.proofs.run.Given as goal
 
