@@ -2,7 +2,7 @@
 use Prim.Native.Nat.{ℕ, ◌+◌, ◌-◌, ◌*◌, ◌^◌, ◌≤◌, ◌<◌}
 use native.Mathlib.Omega.{arith}
 use mathlib.Core.Path.{◌≡◌, refl, ap, ap₂, sym, ◌∙◌, subst}
-use mathlib.Core.List.{List, [], ◌∷◌, ◌++◌, append_assoc, append-nil}
+use mathlib.Core.List.{List, [], ◌++◌, append_assoc, append-nil}
 use lib.ListN.{length, take, drop, length-append, length-drop, take-append-drop}
 use lib.Seq.{take-take, length-take-le, take-add, drop_at}
 use Rattle.error.specs.declared.Refusal.{Refusal}
@@ -22,7 +22,7 @@ use Rattle.frame_list.specs.declared.Last.{Last}
 use Rattle.frame_list.specs.declared.Turn.{Turn}
 use Rattle.frame_list.specs.Window.{Enough, Fills}
 use Rattle.frame_list.specs.Listing.{Listing, listed, Lists}
-use Rattle.frame_list.specs.CardProgress.{Sound, pending, ahead, Stays, Continues, Wanting, Closes, Refills, Carries, ending, Unfinished, Accounts, Stops, Turns, Runs}
+use Rattle.frame_list.specs.CardProgress.{Sound, pending, Stays, Continues, Wanting, Closes, Refills, Carries, Unfinished, Accounts, Stops, Turns, Runs}
 use Rattle.frame_list.proofs.FirstFrame.{listed-stream, listed-goes_on, listed-stands}
 
 -- ---- the window's bytes

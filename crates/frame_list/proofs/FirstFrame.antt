@@ -1,6 +1,6 @@
 -- The card's first frame gives the size of the stream's blocks: what is listed of a window goes on, or stands, whatever
 -- follows, also where that size was found in this window. Assumes nothing.
-use Prim.Native.Nat.{ℕ, ◌+◌, ◌≤◌}
+use Prim.Native.Nat.{ℕ, ◌+◌}
 use native.Mathlib.Omega.{arith}
 use mathlib.Core.Bool.{Bool, true, false, ◌&&◌}
 use mathlib.Core.Path.{◌≡◌, refl, ap, ap₂, sym, ◌∙◌, subst}
@@ -8,7 +8,6 @@ use mathlib.Core.List.{List, [], ◌∷◌, ◌++◌}
 use lib.Dec.{eqb}
 use lib.ListN.{drop}
 use Rattle.std.specs.Prelude.{if◌then◌else◌}
-use Rattle.reading.specs.declared.Place.{Place}
 use Rattle.reading.specs.Places.{At, got_at, refused_at, short_at, run_at, place_of}
 use Rattle.reading.proofs.ByteRuns.{and_fst}
 use Rattle.reading.proofs.Postconditions.{Meets, holds_at}
@@ -19,12 +18,12 @@ use Rattle.rfc9639.specs.declared.StreamRecord.{StreamRecord}
 use Rattle.rfc9639.specs.Header.{header}
 use Rattle.rfc9639.specs.Stream.{in_range, bits_in_range, possible}
 use Rattle.rfc9639.specs.Read.{refusal, Result, untouched, cut_short, result}
-use Rattle.rfc9639.specs.FrameByFrame.{Verdict, accept, undecided, refuse, verdict_of, verdict, stream_settings}
+use Rattle.rfc9639.specs.FrameByFrame.{accept, undecided, verdict_of, verdict, stream_settings}
 use Rattle.demands.proofs.Headers.{Early, Sound, header_holds}
 use Rattle.demands.proofs.Results.{cut-number}
 use Rattle.demands.proofs.ResultCases as cases
 use Rattle.demands.proofs.FrameByFrame.{accept-zero, undecided-two, lawful}
-use Rattle.demands.proofs.StreamSettings.{header-settings, refused-settings, short-settings, stream-possible, settings_stay}
+use Rattle.demands.proofs.StreamSettings.{header-settings, short-settings, stream-possible, settings_stay}
 use Rattle.frame_list.specs.declared.Totals.{Totals}
 use Rattle.frame_list.specs.Listing.{with_frame, block_for, with_block, settled, settings_for, Listing, listing, listed_as, listed}
 use Rattle.frame_list.proofs.ListedFrames.{other-shown, goes_on-from, list_stands}
@@ -36,7 +35,7 @@ Same u t = (u.block ≡ t.block) × (u.stream ≡ t.stream)
 listing-same : (place : ℕ) (t : Totals) (qs : List Result) → Same (listing place t qs).totals t
 unfolding listing
 listing-same place t [] = (refl, refl)
-listing-same place t (q ∷ qs) = go (eqb q.report.number 0) (listing-same _ _ qs)
+listing-same place t (q ∷ qs) = go (eqb q.report.number 0) (listing-same (place + q.report.consumed) after qs)
   where
     after : Totals
     after = with_frame t q.report.channels q.report.size q.report.rate

@@ -1,15 +1,8 @@
 -- `frames::list_frames` meets its contract: each step takes a byte and keeps the list the same. Assumes nothing.
 use Prim.Native.Nat.{◌+◌, ◌-◌, ◌≤◌}
-use native.Mathlib.Omega.{arith}
-use mathlib.Core.Path.{◌≡◌, ap, sym, ◌∙◌}
-use borrow.Author.Rules.{rules}
+use mathlib.Core.Path.{◌≡◌}
 use lib.ListN.{length, drop}
-use Rattle.walk.proofs.NextPlace.{left-length, frame-moves-place, place_in_input, frame-samples-fit}
-use Rattle.rfc9639.specs.declared.Settings.{Settings}
-use Rattle.rfc9639.specs.declared.StreamBlock.{StreamBlock}
-use Rattle.frame_list.specs.Listing.{with_block, listed_as}
-use Rattle.frame_list.specs.declared.Totals.{Totals}
-use Rattle.frame_list.proofs.ListedFrames.{step-frame, step-refused}
+use Rattle.frame_list.specs.Listing.{listed_as}
 use Rattle.frame_list.proofs.list_frames.Given as goal
 
 abbrev pub invariant-loop-f : goal.invariant-loop-f

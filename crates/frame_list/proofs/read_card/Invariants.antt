@@ -1,10 +1,8 @@
 -- `frames::read_card` meets its contract: each turn reads further and keeps the list the same. Assumes nothing.
-use native.Mathlib.Omega.{arith}
-use mathlib.Core.Path.{◌≡◌, ◌∙◌}
-use borrow.Author.Rules.{rules}
+use mathlib.Core.Path.{◌≡◌}
 use lib.ListN.{length, take}
 use Rattle.frame_list.specs.CardProgress.{Sound, ahead}
-use Rattle.frame_list.proofs.CardTurns.{turns_on, turns_over, SoFar, begin, so_far_on, so_far-runs}
+use Rattle.frame_list.proofs.CardTurns.{SoFar}
 use Rattle.frame_list.proofs.read_card.Given as goal
 
 abbrev pub invariant-loop-next : goal.invariant-loop-next

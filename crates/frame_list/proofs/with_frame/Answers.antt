@@ -1,5 +1,4 @@
 -- `frames::with_frame` meets its contract. Assumes nothing.
-use borrow.Author.Rules.{rules}
 use Rattle.frame_list.proofs.with_frame.Goals as goal
 
 pub returns : goal.returns

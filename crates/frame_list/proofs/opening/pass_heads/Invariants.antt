@@ -1,12 +1,8 @@
 -- `frames::opening::pass_heads` meets its contract: each head leads to the next block, and is past the last. Assumes
 -- nothing.
 use Prim.Native.Nat.{◌-◌}
-use native.Mathlib.Omega.{arith}
-use mathlib.Core.Path.{ap}
-use borrow.Author.Rules.{rules}
 use lib.ListN.{length}
-use Rattle.reading.specs.declared.Place.{Place}
-use Rattle.frame_list.proofs.MetadataBlocks.{Hopping, hopping, next-head, hop_on, hop_last, hop_short, hop_refused, hops-done}
+use Rattle.frame_list.proofs.MetadataBlocks.{Hopping}
 use Rattle.frame_list.proofs.opening.pass_heads.Given as goal
 
 abbrev pub invariant-loop-last : goal.invariant-loop-last

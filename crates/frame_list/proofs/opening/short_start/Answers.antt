@@ -3,7 +3,6 @@ use mathlib.Core.Path.{refl, sym, ◌∙◌}
 use borrow.Author.Tests.{eqb-true}
 use Rattle.error.specs.declared.Refusal.{Refusal}
 use Rattle.frame_list.proofs.CardTurns.{refills_on, refills_over}
-use borrow.Author.Rules.{rules}
 use Rattle.frame_list.proofs.opening.short_start.Goals as goal
 
 pub returns-then-card-lt4 : goal.returns-then-card-lt4
@@ -11,12 +10,8 @@ returns-then-card-lt4 c = (refl, refl, c.if-card-lt4.true, eqb-true _ 0 (sym c.i
 
 pub returns-in-On : goal.returns-in-On
 returns-in-On c =
-    let a = c in
-    let w = c in
-    refills_on a.args.window.now w.wait.new.1.1.1.1.0 a.args.card 0 Refusal.CutShort w.wait.result w.wait.ensures c.turn-1.given.1
+    refills_on c.args.window.now c.wait-turn.new.window c.args.card 0 Refusal.CutShort c.wait-turn.result c.wait-turn.ensures c.in-On.is
 
 pub returns-in-Over : goal.returns-in-Over
 returns-in-Over c =
-    let a = c in
-    let w = c in
-    refills_over a.args.window.now w.wait.new.1.1.1.1.0 a.args.card 0 Refusal.CutShort w.wait.result w.wait.ensures c.turn-in-Over-1.given.1
+    refills_over c.args.window.now c.wait-turn.new.window c.args.card 0 Refusal.CutShort c.wait-turn.result c.wait-turn.ensures c.in-Over.is

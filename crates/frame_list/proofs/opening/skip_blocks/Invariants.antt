@@ -1,10 +1,8 @@
 -- `frames::opening::skip_blocks` meets its contract: each look moves on along the card. Assumes nothing.
-use native.Mathlib.Omega.{arith}
-use mathlib.Core.Path.{◌≡◌, refl, ◌∙◌, subst}
-use borrow.Author.Rules.{rules}
+use mathlib.Core.Path.{◌≡◌}
 use lib.ListN.{length, take}
 use Rattle.frame_list.specs.CardProgress.{Sound, ahead}
-use Rattle.frame_list.proofs.BlockTurns.{skips_on, skips_to_frames, skips_over, Skipping, begin, skipping_on, skipping_frames, skipping_over}
+use Rattle.frame_list.proofs.BlockTurns.{Skipping}
 use Rattle.frame_list.proofs.opening.skip_blocks.Given as goal
 
 abbrev pub invariant-loop-next : goal.invariant-loop-next

@@ -1,5 +1,4 @@
 -- `frames::opening::told_card` meets its contract. Assumes nothing.
-use borrow.Author.Rules.{rules}
 use Rattle.frame_list.proofs.opening.told_card.Goals as goal
 
 pub returns : goal.returns

@@ -1,5 +1,4 @@
 -- `frames::opening::totals_of` meets its contract. Assumes nothing.
-use borrow.Author.Rules.{rules}
 use Rattle.frame_list.proofs.opening.totals_of.Goals as goal
 
 pub returns : goal.returns

@@ -1,8 +1,7 @@
 -- `frames::report::error_number` is safe: a number that is not negative fits. Assumes nothing.
 use native.Mathlib.Omega.{arith}
 use mathlib.Core.Path.{◌≡◌, sym}
-use mathlib.Core.Bool.{true, false, true≢false}
-use borrow.Author.Rules.{rules}
+use mathlib.Core.Bool.{true, true≢false}
 use lib.Dec.{T}
 use lib.IntN.{ℤ, pos, negsuc, nat_abs}
 use lib.Signed.{non_neg, le_z}

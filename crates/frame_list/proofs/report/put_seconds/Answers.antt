@@ -2,7 +2,6 @@
 use Prim.Native.Nat.{◌<◌}
 use native.Mathlib.Nat.{mod-lt}
 use native.Mathlib.Omega.{arith}
-use borrow.Author.Rules.{rules}
 use Rattle.frame_list.proofs.report.put_seconds.Goals as goal
 
 pub overflow_mul-samples : goal.overflow_mul-samples

@@ -1,9 +1,8 @@
 -- `frames::window::fill` meets its contract, and ends: a read brings a byte or uses up a try. Assumes nothing.
-use Prim.Native.Nat.{◌+◌, ◌-◌}
 use native.Mathlib.Omega.{arith}
-use borrow.Author.Rules.{rules}
+use mathlib.Core.Path.{refl}
 use Rattle.frame_list.specs.declared.window.Rest.{Rest}
-use Rattle.frame_list.proofs.FillInvariant.{FillInvariant, begin, read_keeps, read_positive, read_fits, read_grows, fill-ends}
+use Rattle.frame_list.proofs.FillInvariant.{begin, read_keeps, read_positive, read_fits, read_grows, fill-ends}
 use Rattle.frame_list.proofs.window.fill_to.Goals as goal
 
 pub loop-held-init : goal.loop-held-init
@@ -11,53 +10,43 @@ loop-held-init c = begin _ _ c.requires.0
 
 pub overflow_add-held : goal.overflow_add-held
 overflow_add-held c =
-    let d = c in
-    omega (arith, read_fits d.before.before.before.loop.invariant d.read-once.auto.1.0 d.read-once.ensures c.got-1.given.1)
+    omega (arith, read_fits c.loop-held.invariant c.read_once-got.auto.window c.in-Bytes.ensures refl)
 
 pub loop-held-smaller-in-Bytes : goal.loop-held-smaller-in-Bytes
 loop-held-smaller-in-Bytes c =
-    let d = c in
-    omega (arith, read_positive d.before.before.before.loop.invariant d.read-once.auto.1.0 d.read-once.ensures c.got-1.given.1)
+    omega (arith, read_positive c.loop-held.invariant c.read_once-got.auto.window c.in-Bytes.ensures refl)
 
 pub loop-held-preserved-in-Bytes : goal.loop-held-preserved-in-Bytes
 loop-held-preserved-in-Bytes c =
-    let d = c in
-    read_grows d.before.before.before.loop.invariant d.read-once.auto.1.0 d.read-once.ensures c.got-1.given.1
+    read_grows c.loop-held.invariant c.read_once-got.auto.window c.in-Bytes.ensures refl
 
 pub shape_of-window-in-Ended : goal.shape_of-window-in-Ended
 shape_of-window-in-Ended c =
-    let d = c in
-    (read_keeps d.before.before.before.loop.invariant d.read-once.auto.1.0 d.read-once.ensures).long
+    (read_keeps c.loop-held.invariant c.read_once-got.auto.window c.read_once-got.ensures).long
 
 pub returns-in-Ended : goal.returns-in-Ended
 returns-in-Ended c =
-    let d = c in
-    fill-ends Rest.Ended (read_keeps d.before.before.before.loop.invariant d.read-once.auto.1.0 d.read-once.ensures) tt
+    fill-ends Rest.Ended (read_keeps c.loop-held.invariant c.read_once-got.auto.window c.read_once-got.ensures) tt
 
 pub shape_of-window-then-tries-eq0 : goal.shape_of-window-then-tries-eq0
 shape_of-window-then-tries-eq0 c =
-    let d = c in
-    (read_keeps d.before.before.before.loop.invariant d.read-once.auto.1.0 d.read-once.ensures).long
+    (read_keeps c.loop-held.invariant c.read_once-got.auto.window c.read_once-got.ensures).long
 
 pub returns-then-tries-eq0 : goal.returns-then-tries-eq0
 returns-then-tries-eq0 c =
-    let d = c in
-    fill-ends (Rest.Failed _) (read_keeps d.before.before.before.loop.invariant d.read-once.auto.1.0 d.read-once.ensures) tt
+    fill-ends (Rest.Failed _) (read_keeps c.loop-held.invariant c.read_once-got.auto.window c.read_once-got.ensures) tt
 
 pub loop-held-preserved : goal.loop-held-preserved
 loop-held-preserved c =
-    let d = c in
-    read_keeps d.before.before.before.loop.invariant d.read-once.auto.1.0 d.read-once.ensures
+    read_keeps c.loop-held.invariant c.read_once-got.auto.window c.read_once-got.ensures
 
 pub shape_of-window-in-Failed : goal.shape_of-window-in-Failed
 shape_of-window-in-Failed c =
-    let d = c in
-    (read_keeps d.before.before.before.loop.invariant d.read-once.auto.1.0 d.read-once.ensures).long
+    (read_keeps c.loop-held.invariant c.read_once-got.auto.window c.read_once-got.ensures).long
 
 pub returns-in-Failed : goal.returns-in-Failed
 returns-in-Failed c =
-    let d = c in
-    fill-ends (Rest.Failed _) (read_keeps d.before.before.before.loop.invariant d.read-once.auto.1.0 d.read-once.ensures) tt
+    fill-ends (Rest.Failed _) (read_keeps c.loop-held.invariant c.read_once-got.auto.window c.read_once-got.ensures) tt
 
 pub shape_of-window : goal.shape_of-window
 shape_of-window c = c.loop-held.invariant.long

@@ -1,9 +1,6 @@
 -- `frames::window::fill` meets its contract, and ends: a read brings a byte or uses up a try. Assumes nothing.
 use Prim.Native.Nat.{◌+◌, ◌-◌}
-use native.Mathlib.Omega.{arith}
-use borrow.Author.Rules.{rules}
-use Rattle.frame_list.specs.declared.window.Rest.{Rest}
-use Rattle.frame_list.proofs.FillInvariant.{FillInvariant, begin, read_keeps, read_positive, read_fits, read_grows, fill-ends}
+use Rattle.frame_list.proofs.FillInvariant.{FillInvariant}
 use Rattle.frame_list.proofs.window.fill_to.Given as goal
 
 abbrev pub invariant-loop-held : goal.invariant-loop-held

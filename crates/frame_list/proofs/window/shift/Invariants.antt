@@ -1,11 +1,6 @@
 -- `frames::window::shift` meets its contract: the first i bytes are moved (Moved). Assumes nothing.
 use Prim.Native.Nat.{◌-◌}
-use native.Mathlib.Omega.{arith}
-use mathlib.Core.Path.{refl}
-use Rattle.frame_list.proofs.WindowShift.{Moved, begin, step, moved_all}
-use borrow.Author.Rules.{rules}
-use Rattle.frame_list.proofs.window.shift.Reads as reads
-use Rattle.frame_list.proofs.window.shift.Lts as lts
+use Rattle.frame_list.proofs.WindowShift.{Moved}
 use Rattle.frame_list.proofs.window.shift.Given as goal
 
 abbrev pub invariant-loop-i : goal.invariant-loop-i
