@@ -3,7 +3,6 @@
 -- then the results; `refusal` is the number returned, 0 if nothing was refused.
 use Rattle.std.specs.Prelude.{ℕ, ◌+◌, ◌≡◌, List, eqb, ℤ, drop, if◌then◌else◌}
 use Rattle.reading.specs.Places.{At, got_at, refused_at, short_at}
-use Rattle.rfc9639.specs.declared.FirstSample.{FirstSample}
 use Rattle.rfc9639.specs.declared.SampleRate.{SampleRate}
 use Rattle.rfc9639.specs.declared.Settings.{Settings}
 use Rattle.rfc9639.specs.declared.StreamBlock.{StreamBlock}

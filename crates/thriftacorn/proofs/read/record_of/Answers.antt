@@ -1,16 +1,17 @@
 -- The stream's record that a flag gives, test by test as in the definition. Assumes nothing.
+use native.Mathlib.Omega.{arith}
 use borrow.Author.Tests.{ne_eqb}
 use Rattle.thriftacorn.specs.Exports.{record_of}
 use Rattle.thriftacorn.proofs.read.record_of.Goals as goal
 
 pub returns-in-0 : goal.returns-in-0
 unfolding record_of
-returns-in-0 c = rw c.in-0.keys1
+returns-in-0 c = rw c.in-0.is
 
 pub returns-in-1 : goal.returns-in-1
 unfolding record_of
-returns-in-1 c = rw c.in-0.keys2
+returns-in-1 c = rw c.in-1.is
 
 pub returns-in_default : goal.returns-in_default
 unfolding record_of
-returns-in_default c = rw (ne_eqb _ _ c.in-0.rest.0.1, ne_eqb _ _ c.in-0.rest.1)
+returns-in_default c = rw (ne_eqb c.args.given 0 (omega arith), ne_eqb c.args.given 1 (omega arith))

@@ -1,5 +1,4 @@
 -- The settings of a stream from a place on. Past the end there are no bytes, so no header. Assumes nothing.
-use borrow.Author.Rules.{rules}
 use Rattle.thriftacorn.proofs.ReportedAnswers.{settings-within, settings-past}
 use Rattle.thriftacorn.proofs.read.settings_at.Goals as goal
 

@@ -1,5 +1,4 @@
 -- The settings that the two numbers give. Assumes nothing.
-use borrow.Author.Rules.{rules}
 use mathlib.Core.Path.{ap}
 use Rattle.rfc9639.specs.declared.StreamBlock.{StreamBlock}
 use Rattle.rfc9639.specs.declared.StreamRecord.{StreamRecord}
@@ -8,4 +7,4 @@ use Rattle.thriftacorn.proofs.read.settings_of.Goals as goal
 
 pub returns : goal.returns
 unfolding settings_of
-returns c = ap (λ (b : StreamBlock). record { block = b; stream = StreamRecord.Unknown }) c.Block-of.ensures
+returns c = ap (λ (b : StreamBlock). record { block = b; stream = StreamRecord.Unknown }) c.block_of.ensures

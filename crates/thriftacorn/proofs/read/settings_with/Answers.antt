@@ -1,5 +1,4 @@
 -- The settings that the five numbers give. Assumes nothing.
-use borrow.Author.Rules.{rules}
 use mathlib.Core.Path.{ap₂}
 use Rattle.rfc9639.specs.declared.StreamBlock.{StreamBlock}
 use Rattle.rfc9639.specs.declared.StreamRecord.{StreamRecord}
@@ -9,4 +8,4 @@ use Rattle.thriftacorn.proofs.read.settings_with.Goals as goal
 pub returns : goal.returns
 unfolding settings_with
 returns c =
-    ap₂ (λ (b : StreamBlock) (r : StreamRecord). record { block = b; stream = r }) c.Block-of.ensures c.record_of.ensures
+    ap₂ (λ (b : StreamBlock) (r : StreamRecord). record { block = b; stream = r }) c.block_of.ensures c.record_of.ensures

@@ -1,6 +1,5 @@
 -- What an answer reports, case by case. Assumes nothing.
 use mathlib.Core.Path.{ap, sym}
-use borrow.Author.Rules.{rules}
 use Rattle.rfc9639.specs.Read.{refusal}
 use Rattle.frame.specs.declared.ReadAnswer.{ReadAnswer}
 use Rattle.frame.specs.Reads.{report_of}
@@ -10,10 +9,10 @@ use Rattle.thriftacorn.proofs.read.store_report.Goals as goal
 
 pub returns-in-Frame : goal.returns-in-Frame
 returns-in-Frame c =
-    let e = sym c.answer-1.given.1 in
+    let e = sym c.in-Frame.is in
     record {
-      numbers = rw c.first_number_lem.ensures (ap (λ (a : ReadAnswer). numbers_of (report_of a)) e);
-      flag = rw c.first_known_lem.ensures (ap (λ (a : ReadAnswer). first_known (report_of a).first) e);
+      numbers = rw c.first_number.ensures (ap (λ (a : ReadAnswer). numbers_of (report_of a)) e);
+      flag = rw c.first_known.ensures (ap (λ (a : ReadAnswer). first_known (report_of a).first) e);
       rate-flag = rw c.rate_known.ensures (ap (λ (a : ReadAnswer). rate_known (report_of a).rate) e);
       hertz = rw c.rate_number.ensures (ap (λ (a : ReadAnswer). rate_number (report_of a).rate) e);
     }
@@ -21,9 +20,9 @@ returns-in-Frame c =
 pub returns-in-Refused : goal.returns-in-Refused
 unfolding refusal
 returns-in-Refused c =
-    let e = sym c.answer-in-Refused-1.given.1 in
+    let e = sym c.in-Refused.is in
     record {
-      numbers = rw c.number_of_lem.ensures (ap (λ (a : ReadAnswer). numbers_of (report_of a)) e);
+      numbers = rw c.number_of.ensures (ap (λ (a : ReadAnswer). numbers_of (report_of a)) e);
       flag = ap (λ (a : ReadAnswer). first_known (report_of a).first) e;
       rate-flag = ap (λ (a : ReadAnswer). rate_known (report_of a).rate) e;
       hertz = ap (λ (a : ReadAnswer). rate_number (report_of a).rate) e;

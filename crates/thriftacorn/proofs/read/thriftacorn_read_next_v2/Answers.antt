@@ -1,9 +1,7 @@
 -- The step of `walk::read_next` with the settings given, reported. Assumes nothing.
-use borrow.Author.Rules.{rules}
 use Rattle.thriftacorn.proofs.ReportedAnswers.{next_v2}
 use Rattle.thriftacorn.proofs.read.thriftacorn_read_next_v2.Goals as goal
 
 pub returns : goal.returns
 returns c =
-    let read = c in
-    next_v2 read.before.before.before.settings-of.ensures read.read_next.ensures c.store_report.ensures
+    next_v2 c.settings_of-settings.ensures c.read_next-moved.ensures c.store_report.ensures

@@ -1,4 +1,5 @@
 -- The answer of `block::sample`, case by case. Assumes nothing.
+use mir.Syntax.{w32}
 use mathlib.Core.Path.{ap, ◌∙◌}
 use mir.Facts.{to_z-of_z}
 use borrow.Author.Rules.{rules}
@@ -8,8 +9,8 @@ use Rattle.thriftacorn.proofs.samples.thriftacorn_sample_v1.Goals as goal
 
 pub returns-in-Value : goal.returns-in-Value
 returns-in-Value c =
-    ap (λ z. record { number = 0; value = z }) (to_z-of_z (record { sfits = search rules }))
-    ∙ report_of_case sample_report c.sample-answer.ensures c.answer-1.given.1
+    ap (λ z. record { number = 0; value = z }) (to_z-of_z {w = w32} (search rules))
+    ∙ report_of_case sample_report c.sample-answer.ensures c.in-Value.is
 
 pub returns-in-Refused : goal.returns-in-Refused
-returns-in-Refused c = rw c.number_of_lem.ensures (report_of_case sample_report c.sample-answer.ensures c.answer-in-Refused-1.given.1)
+returns-in-Refused c = rw c.number_of.ensures (report_of_case sample_report c.sample-answer.ensures c.in-Refused.is)

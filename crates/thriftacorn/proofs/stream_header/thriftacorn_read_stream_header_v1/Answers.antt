@@ -1,6 +1,5 @@
 -- The answer of `stream::read_stream_header`, reported case by case. Assumes nothing.
 use mathlib.Core.Path.{ap, sym, ◌∙◌}
-use borrow.Author.Rules.{rules}
 use Rattle.stream.specs.declared.StreamRead.{StreamRead}
 use Rattle.stream.specs.Answers.{stream_at}
 use Rattle.thriftacorn.specs.Exports.{stream_numbers}
@@ -9,9 +8,9 @@ use Rattle.thriftacorn.proofs.stream_header.thriftacorn_read_stream_header_v1.Go
 
 pub returns-in-Header : goal.returns-in-Header
 returns-in-Header c =
-    ap stream_numbers (ap (λ (r : StreamRead). stream_at r) (sym c.answer-1.given.1) ∙ c.read_stream_header-answer.ensures)
+    ap stream_numbers (ap (λ (r : StreamRead). stream_at r) (sym c.in-Header.is) ∙ c.read_stream_header-answer.ensures)
 
 pub returns-in-Refused : goal.returns-in-Refused
 returns-in-Refused c =
-    rw c.number_of_lem.ensures
-    (refusal-numbers c.answer-in-Refused-1.given.0.0 ∙ ap stream_numbers (ap (λ (r : StreamRead). stream_at r) (sym c.answer-in-Refused-1.given.1) ∙ c.read_stream_header-answer.ensures))
+    rw c.number_of.ensures
+    (refusal-numbers c.in-Refused.e ∙ ap stream_numbers (ap (λ (r : StreamRead). stream_at r) (sym c.in-Refused.is) ∙ c.read_stream_header-answer.ensures))
