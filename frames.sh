@@ -53,12 +53,9 @@ if [ ! -f "$program" ] || [ -n "$(find crates crates.txt -name out -prune -o -ty
     echo "frames.sh: proving and building the reader (some minutes on a fresh clone)" >&2
     sh build.sh frame_list || fail "the reader does not build"
 fi
-# The program opens a file whose name is text; any other is its standard input.
-if [ -n "$card" ] && ! printf %s "$card" | iconv -f UTF-8 -t UTF-8 >/dev/null 2>&1; then
-    exec <"$card" || fail "'$card' could not be opened"
-    card=''
-fi
-sh run.sh frame_list ${card:+"$card"} | awk '
+# The card is the program's standard input, whatever its name: the program itself opens only names that are text.
+[ -z "$card" ] || exec <"$card"
+sh run.sh frame_list | awk '
     { print; word = $1 }
     END {
         if (word == "ended:") exit 0

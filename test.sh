@@ -56,8 +56,8 @@ count_compared() { # STATUS SCRIPT LOG
 
 run rt ci
 # An edit that no longer fits the text shows nothing, and rt ci passes all the same.
-if grep -q '^rt: ok.*, [1-9][0-9]* bad' "$log"; then
-    fail 'a must-fail edit no longer fits the text'
+if grep -q -e '^rt: ok.*, [1-9][0-9]* bad' -e 'refused, as it must be (only ' "$log"; then
+    fail 'a must-fail edit is not refused for what it means'
 fi
 # The programs, for their stored cases and for the comparisons.
 for program in runner read_probe stream_probe write_probe frame_list; do

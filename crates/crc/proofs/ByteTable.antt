@@ -1,4 +1,4 @@
--- The tables of the bytes' sums: one more byte in a sum is one look_up. Assumes nothing.
+-- The tables of the bytes' sums: one more byte in a sum is one look-up. Assumes nothing.
 use Prim.Native.Nat.{ℕ, zero, suc, ◌+◌, ◌*◌, ◌-◌, ◌/◌, ◌%◌, ◌^◌, ◌≤◌, ◌<◌}
 use native.Mathlib.Nat.{zero-add, add-zero, suc-add, add-suc, div-one, mul-mod_left}
 use native.Mathlib.Omega.{arith}
