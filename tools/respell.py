@@ -1,6 +1,6 @@
 #!/usr/bin/env python3
 """Spells the definitions and lemmas of this repository as the library spells its own: words in snake case, a dash only
-between two names. Run once, after /opt/rattle/port/port.py, at the top of the repository:
+between two names. Run once, after the kit's port/port.py, at the top of the repository:
 
     python3 tools/respell.py [--check]
 

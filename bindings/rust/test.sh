@@ -16,6 +16,10 @@ fi
 . "$root/bindings/library.sh"
 export THRIFTACORN_LIB="$library"
 cd "$root/bindings/rust" || exit 2
+if ! cmp -s NOTICE "$root/NOTICE"; then
+    echo "$name: bindings/rust/NOTICE is no longer a copy of NOTICE" >&2
+    exit 1
+fi
 cargo test --offline --quiet || exit 1
 cargo package --offline --allow-dirty --quiet || exit 1
 if ! cargo package --offline --allow-dirty --quiet --list | grep -qx NOTICE; then
