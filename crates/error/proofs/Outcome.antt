@@ -8,12 +8,12 @@ use Rattle.reading.proofs.Outcome.{OneOutcome, one_value}
 use Rattle.error.specs.declared.Refusal.{Refusal}
 use Rattle.error.specs.declared.Refusal.TheVariants.{NothingLeft, CutShort, NotSync, Reserved, BadNumber, HeaderSum, NoRoom, NotDone, BadShape, FrameSum, BadArgument, SampleRange, OutputRoom}
 use Rattle.error.specs.Numbers.{number_of}
-use Rattle.error.specs.contracts.number_of as number_of
-use Rattle.error.proofs.number_of.Reads as number_of_reads
-use Rattle.error.specs.contracts.needs as needs
-use Rattle.error.proofs.needs.Reads as needs_reads
+use Rattle.error.specs.contracts.U8FromRefusal.from as from
+use Rattle.error.proofs.U8FromRefusal.from.Reads as from_reads
+use Rattle.error.specs.contracts.Refusal.needs as needs
+use Rattle.error.proofs.Refusal.needs.Reads as needs_reads
 
-pub number_of-one : OneOutcome number_of.ended number_of_reads.Learnt
+pub number_of-one : OneOutcome from.ended from_reads.Learnt
 number_of-one κs args r r' left left' p q = (one_value p q, refl)
 
 pub needs-one : OneOutcome needs.ended needs_reads.Learnt

@@ -9,9 +9,13 @@ use lib.Dec.{eqb}
 use Rattle.reading.specs.declared.Place.{Place}
 use Rattle.reading.specs.Readers.{Ask, ◌>>=◌}
 use Rattle.reading.specs.Places.{At, got_at, refused_at, short_at, run_at}
+use Rattle.std.specs.Prelude.{Result, Ok, Err}
+use Rattle.std.specs.Result.{IsErrAnd}
+use Rattle.std.proofs.lemmas.Result.{err_from_is_err_and}
 use Rattle.reading.proofs.ByteRuns.{bind_refused, bind_short}
 use Rattle.error.specs.declared.Refusal.{Refusal}
 use Rattle.error.specs.Numbers.{number_of, refused_by}
+use Rattle.error.specs.Answers.{read_at, passed_at}
 use Rattle.error.proofs.Outcome.{number-tells}
 
 -- a reader whose first part is refused, or cut short, is too
@@ -45,3 +49,23 @@ got_not_refused {A} a p e = go (eqb (number_of e) 2)
     go : (b : Bool) → got_at a p ≡ cond b short_at (refused_at (number_of e)) → ⊥
     go true h = let z : ◌≡◌ {A = ℕ} 0 1 = cc in omega arith
     go false h = let z : ◌≡◌ {A = ℕ} 0 1 = cc in omega arith
+
+-- ---- answers
+
+-- answers with the same meaning are equal
+pub read_at-one : {A : Type 0} (r r' : Result (A × Place) Refusal) → read_at r ≡ read_at r' → r ≡ r'
+read_at-one (Ok (a, p)) (Ok (b, q)) e = let d : a ≡ b = cc in let f : p ≡ q = cc in rw (d, f)
+read_at-one (Ok r) (Err e') h = absurd (got_not_refused r.0 r.1 e' h)
+read_at-one (Err e) (Ok r') h = absurd (got_not_refused r'.0 r'.1 e (sym h))
+read_at-one {A} (Err e) (Err e') h = ap Err (refused-one {A = A} e e' h)
+
+pub passed_at-one : (r r' : Result Place Refusal) → passed_at r ≡ passed_at r' → r ≡ r'
+passed_at-one (Ok p) (Ok p') e = cc
+passed_at-one (Ok p) (Err e') h = absurd (got_not_refused tt p e' h)
+passed_at-one (Err e) (Ok p') h = absurd (got_not_refused tt p' e (sym h))
+passed_at-one (Err e) (Err e') h = ap Err (refused-one {A = Unit {0}} e e' h)
+
+-- The exit of a `?`: the refusal of a reader's first part is the reader's. What the exit returns is known by `IsErrAnd`.
+module _ {A B : Type 0} (p : Ask A) (k : A → Ask B) (s : List ℕ) (at : Place) where
+  pub exits : (r : Result (B × Place) Refusal) (e : Refusal) → IsErrAnd r (λ y. y ≡ e) → refused_by e ≡ run_at p s at → read_at r ≡ run_at (p >>= k) s at
+  exits r e i h = let x = err_from_is_err_and r i in rw (x.1, x.2) (sym (bind_refusal p s at k e (sym h)))

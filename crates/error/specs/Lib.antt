@@ -1,3 +1,4 @@
--- The refusals' numbers, and what each asks of the caller.
+-- The refusals' numbers, what each asks of the caller, and what a reader's answer means in the definition.
 pub mod Numbers
+pub mod Answers
 pub mod Needs

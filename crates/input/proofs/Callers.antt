@@ -20,9 +20,10 @@ use Rattle.reading.proofs.Bits.{bits-bits_of_bytes, length-bits_of_bytes}
 use Rattle.reading.proofs.ByteRuns.{bits_below}
 use Rattle.reading.proofs.NumbersAsBits.{bits-take, bits-drop, bits_of-spelt, spelt-bits_of}
 use Rattle.reading.proofs.Words.{WordAt, taken_word}
-use Rattle.input.specs.declared.Bits.{Bits}
-use Rattle.input.specs.declared.Bits.TheVariants.{Value, Short}
-use Rattle.input.specs.Answers.{bits_at, map_at, low64, count, counted_zeros, word_from}
+use Rattle.error.specs.declared.Refusal.{Refusal}
+use Rattle.error.specs.Numbers.{refused_by}
+use Rattle.error.proofs.Refusals.{got_not_refused}
+use Rattle.input.specs.Answers.{map_at, low64, count, counted_zeros, word_from}
 
 -- ---- read_bits: a number of at most 64 bits is exact
 
@@ -36,19 +37,9 @@ module _ (n : ℕ) (s : List ℕ) (at : Place) (h : n ≤ 64) where
   pub low64-bits : low64 (run_at (bits n) s at) ≡ run_at (bits n) s at
   low64-bits = low64-small (run_at (bits n) s at) (λ v p e. lt_of_lt_of_le (bits_below n s at e) (pow_mono h))
 
-  -- by what the call answered, and what a match found of it
-  pub read_is : {r r' : Bits} → bits_at r ≡ low64 (run_at (bits n) s at) → r ≡ r' → run_at (bits n) s at ≡ bits_at r'
-  read_is e f = sym low64-bits ∙ sym e ∙ ap bits_at f
-
-  pub read-got : {r : Bits} {v : ℕ} {p : Place} → bits_at r ≡ low64 (run_at (bits n) s at) → r ≡ Value v p → run_at (bits n) s at ≡ got_at v p
-  read-got e f = read_is e f
-
-  pub read_short : {r : Bits} → bits_at r ≡ low64 (run_at (bits n) s at) → r ≡ Short → run_at (bits n) s at ≡ short_at
-  read_short e f = read_is e f
-
--- one bit
-pub bit_is : (s : List ℕ) (at : Place) {r r' : Bits} → bits_at r ≡ low64 (run_at (bits 1) s at) → r ≡ r' → run_at (bits 1) s at ≡ bits_at r'
-bit_is s at e f = read_is 1 s at (omega arith) e f
+  -- what a `?` finds of the call's answer, a value or a refusal
+  pub read_exact : {x : At ℕ} → x ≡ low64 (run_at (bits n) s at) → x ≡ run_at (bits n) s at
+  read_exact e = e ∙ low64-bits
 
 -- ---- read_unary
 
@@ -58,21 +49,20 @@ map_at-got f (got_at z q) {c} {p} e = let a : c ≡ f z = cc in let b : q ≡ p 
 map_at-got f (refused_at n) e = absurd (let z : ◌≡◌ {A = ℕ} 0 1 = cc in omega arith)
 map_at-got f short_at e = absurd (let z : ◌≡◌ {A = ℕ} 0 1 = cc in omega arith)
 
-map_at-short : (f : ℕ → ℕ) (x : At ℕ) → short_at ≡ map_at f x → x ≡ short_at
+map_at-refused : (f : ℕ → ℕ) (x : At ℕ) (e : Refusal) → refused_by e ≡ map_at f x → refused_by e ≡ x
 unfolding map_at
-map_at-short f (got_at z q) e = absurd (let z : ◌≡◌ {A = ℕ} 0 1 = cc in omega arith)
-map_at-short f (refused_at n) e = absurd (let z : ◌≡◌ {A = ℕ} 0 1 = cc in omega arith)
-map_at-short f short_at e = refl
+map_at-refused f (got_at z q) e h = absurd (got_not_refused (f z) q e (sym h))
+map_at-refused f (refused_at n) e h = h
+map_at-refused f short_at e h = h
 
 module _ (s : List ℕ) (at : Place) where
-  pub unary-got : {r : Bits} {c : ℕ} {p : Place} → bits_at r ≡ counted_zeros (run_at zeros s at) → r ≡ Value c p
-      → (z : ℕ) × (run_at zeros s at ≡ got_at z p) × (c ≡ count z)
+  pub unary-got : {c : ℕ} {p : Place} → got_at c p ≡ counted_zeros (run_at zeros s at) → (z : ℕ) × (run_at zeros s at ≡ got_at z p) × (c ≡ count z)
   unfolding counted_zeros
-  unary-got e f = map_at-got count (run_at zeros s at) (sym (ap bits_at f) ∙ e)
+  unary-got h = map_at-got count (run_at zeros s at) h
 
-  pub unary-short : {r : Bits} → bits_at r ≡ counted_zeros (run_at zeros s at) → r ≡ Short → run_at zeros s at ≡ short_at
+  pub unary-refused : (e : Refusal) → refused_by e ≡ counted_zeros (run_at zeros s at) → refused_by e ≡ run_at zeros s at
   unfolding counted_zeros
-  unary-short e f = map_at-short count (run_at zeros s at) (sym (ap bits_at f) ∙ e)
+  unary-refused e h = map_at-refused count (run_at zeros s at) e h
 
 -- ---- the count of the zeros
 

@@ -3,12 +3,6 @@ use Rattle.std.specs.Prelude.{ℕ, ◌+◌, ◌*◌, ◌%◌, ◌^◌, List, leb
 use Rattle.reading.specs.Bytes.{bits_of_bytes}
 use Rattle.reading.specs.NumbersAsBits.{spelt}
 use Rattle.reading.specs.Places.{At, got_at, refused_at, short_at}
-use Rattle.input.specs.declared.Bits.{Bits}
-use Rattle.input.specs.declared.Bits.TheVariants.{Value, Short}
-
-abbrev pub bits_at : Bits → At ℕ
-bits_at (Value v p) = got_at v p
-bits_at Short = short_at
 
 unfoldable pub map_at : {A B : Type 0} → (A → B) → At A → At B
 map_at f (got_at a p) = got_at (f a) p

@@ -9,32 +9,27 @@ ghost use Rattle.reading.specs.Readers.{bits, zeros};
 ghost use Rattle.reading.specs.Places.{place_of, got_at, run_at};
 ghost use Rattle.reading.specs.Bytes.{bits_of_bytes};
 ghost use Rattle.reading.specs.NumbersAsBits.{bits_of};
-ghost use Rattle.input.specs.Answers.{bits_at, low64, count as count_of, counted_zeros, word_from};
+ghost use Rattle.error.specs.Answers.{read_at};
+ghost use Rattle.input.specs.Answers.{low64, count as count_of, counted_zeros, word_from};
 
+use error::{Read, Refusal};
 use reading::{Place, is_inside};
-
-// What was read and the place after it, or that the input ends first.
-#[derive(Clone, Copy)]
-pub enum Bits {
-    Value(u64, Place),
-    Short,
-}
 
 // The next n bits as a number; of more than 64 bits, the last 64. Where eight bytes are left, up to 56 bits come from
 // the word that they make: the first shift drops the bits before the place, the others the bits after the number.
-pub fn read_bits(s: &[u8], at: Place, n: u32) -> Bits
-    ensures { bits_at result ≡ low64 (run_at (bits n) s.now at) }
+pub fn read_bits(s: &[u8], at: Place, n: u32) -> Read<u64>
+    ensures { read_at result ≡ low64 (run_at (bits n) s.now at) }
 {
     let byte = at.byte;
     let bit = at.bit;
     if 8 <= bit {
-        return Bits::Short;
+        return Err(Refusal::CutShort);
     }
     if n <= 56 {
         if byte < s.len() {
             if 8 <= s.len() - byte {
                 let w = word_at(s, byte) << bit;
-                return Bits::Value((w >> 1) >> (63 - n), later(byte, bit, n as usize));
+                return Ok(((w >> 1) >> (63 - n), later(byte, bit, n as usize)));
             }
         }
     }
@@ -42,11 +37,11 @@ pub fn read_bits(s: &[u8], at: Place, n: u32) -> Bits
 }
 
 // The same near the end of the input, and for more bits. Each turn of the loop takes bits of one byte.
-fn read_bits_by_bytes(s: &[u8], at: Place, n: u32) -> Bits
-    ensures { bits_at result ≡ low64 (run_at (bits n) s.now at) }
+fn read_bits_by_bytes(s: &[u8], at: Place, n: u32) -> Read<u64>
+    ensures { read_at result ≡ low64 (run_at (bits n) s.now at) }
 {
     if !is_inside(s, at) {
-        return Bits::Short;
+        return Err(Refusal::CutShort);
     }
     let mut p = at;
     let mut left = n as usize;
@@ -55,29 +50,29 @@ fn read_bits_by_bytes(s: &[u8], at: Place, n: u32) -> Bits
         let byte = p.byte;
         let bit = p.bit;
         if s.len() <= byte {
-            return Bits::Short;
+            return Err(Refusal::CutShort);
         }
         let m = number::lesser(8 - bit, left);
         acc = (acc << m) + chunk(s[byte], bit, m);
         p = later(byte, bit, m);
         left -= m;
     }
-    Bits::Value(acc, p)
+    Ok((acc, p))
 }
 
 // The number of zero bits before the next 1 bit, which is read too. From 2 ^ 32 zeros on it is the low 32 bits of their
 // number, with bit 32 set: a Rice quotient needs only the low bits, the wasted bits only that there are too many.
 // Nearly every run ends in the first eight bytes: it is the leading zeros of the rest of their word, from the place on.
-pub fn read_unary(s: &[u8], at: Place) -> Bits
-    ensures { bits_at result ≡ counted_zeros (run_at zeros s.now at) }
+pub fn read_unary(s: &[u8], at: Place) -> Read<u64>
+    ensures { read_at result ≡ counted_zeros (run_at zeros s.now at) }
 {
     let byte = at.byte;
     let bit = at.bit;
     if 8 <= bit {
-        return Bits::Short;
+        return Err(Refusal::CutShort);
     }
     if s.len() <= byte {
-        return Bits::Short;
+        return Err(Refusal::CutShort);
     }
     if 8 <= s.len() - byte {
         let rest = word_at(s, byte) << bit;
@@ -91,9 +86,9 @@ pub fn read_unary(s: &[u8], at: Place) -> Bits
 
 // The same for a run of any length: by words while eight bytes are left, then by bytes. `next` is the next byte, and
 // `before` says how many of its bits come before the place.
-fn read_long_unary(s: &[u8], byte: usize, bit: usize) -> Bits
+fn read_long_unary(s: &[u8], byte: usize, bit: usize) -> Read<u64>
     requires { (byte < length s.now) × (bit < 8) }
-    ensures { bits_at result ≡ counted_zeros (run_at zeros s.now (record { byte = byte; bit = bit })) }
+    ensures { read_at result ≡ counted_zeros (run_at zeros s.now (record { byte = byte; bit = bit })) }
 {
     let mut next = byte;
     let mut before = bit;
@@ -118,15 +113,15 @@ fn read_long_unary(s: &[u8], byte: usize, bit: usize) -> Bits
         next += 1;
         before = 0;
     }
-    Bits::Short
+    Err(Refusal::CutShort)
 }
 
 // The answer where q more zeros, and the 1 bit that ends the run, come after a bit of a byte.
-fn ended(count: u64, byte: usize, bit: usize, q: u32) -> Bits
+fn ended(count: u64, byte: usize, bit: usize, q: u32) -> Read<u64>
     requires { (count < 2 ^ 33) × (byte < 2 ^ 63) × (bit < 8) × (q < 64) }
-    ensures { bits_at result ≡ got_at (count_of (count + q)) (place_of (8 * byte + bit + (q + 1))) }
+    ensures { read_at result ≡ got_at (count_of (count + q)) (place_of (8 * byte + bit + (q + 1))) }
 {
-    Bits::Value(more(count, q as u64), later(byte, bit, q as usize + 1))
+    Ok((more(count, q as u64), later(byte, bit, q as usize + 1)))
 }
 
 // The count after m more zeros. From 2 ^ 33 on it goes back to 2 ^ 32: it does not overflow, and bit 32, which says
