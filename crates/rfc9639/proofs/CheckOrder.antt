@@ -4,8 +4,7 @@ use mathlib.Core.Path.{◌≡◌, refl}
 use mathlib.Core.List.{List, [], ◌++◌}
 use lib.IntN.{pos}
 use lib.ListN.{length, replicate}
-use Rattle.rfc9639.specs.declared.FirstSample.{FirstSample}
-use Rattle.rfc9639.specs.declared.SampleRate.{SampleRate}
+use Rattle.std.specs.Prelude.{Option, Some, None}
 use Rattle.rfc9639.specs.declared.Settings.{Settings}
 use Rattle.rfc9639.specs.Read.{refusal, read}
 use Rattle.rfc9639.proofs.Evaluation.{hex, blocks_of, unknown, computed}
@@ -18,11 +17,11 @@ abbrev refuses : List ℕ → ℕ → ℕ → Type 0
 refuses = refuses_given unknown
 
 -- a frame of four equal samples that is accepted with this first sample
-abbrev accepts : Settings → List ℕ → FirstSample → Type 0
+abbrev accepts : Settings → List ℕ → Option ℕ → Type 0
 accepts set s first =
     read set s (replicate 5 (pos 7))
     ≡ record {
-      report = record { number = 0; consumed = length s; first = first; rate = SampleRate.Unknown; channels = 1; bits = 8; size = 4 };
+      report = record { number = 0; consumed = length s; first = first; rate = None; channels = 1; bits = 8; size = 4 };
       buffer = replicate 4 (pos 5) ++ replicate 1 (pos 7);
     }
 
@@ -68,13 +67,13 @@ pub record Ordered : Type 0 where
   pub larger_before-room : refuses_given (blocks_of 3) (hex 7 0xfff86002000335) 3 9
   pub larger_before-subframe : refuses_given (blocks_of 3) (hex 8 0xfff8600200033580) 5 9
   -- not so under variable blocking, where the first sample is the number whatever the size
-  pub larger_variable : accepts (blocks_of 3) (hex 11 0xfff960020903ea00_0594b5) (FirstSample.Known 9)
-  pub unknown_variable : accepts unknown (hex 11 0xfff960020903ea00_0594b5) (FirstSample.Known 9)
+  pub larger_variable : accepts (blocks_of 3) (hex 11 0xfff960020903ea00_0594b5) (Some 9)
+  pub unknown_variable : accepts unknown (hex 11 0xfff960020903ea00_0594b5) (Some 9)
   -- under fixed blocking the first sample is known if the size is, also where the number is 0
-  pub short-block : accepts (blocks_of 16) (hex 11 0xfff8600203030a00_050a00) (FirstSample.Known 48)
-  pub own_block : accepts (blocks_of 4) (hex 11 0xfff8600203030a00_050a00) (FirstSample.Known 12)
-  pub unknown-block : accepts unknown (hex 11 0xfff8600203030a00_050a00) FirstSample.Unknown
-  pub unknown-block_0 : accepts unknown (hex 11 0xfff8600200033500_050984) FirstSample.Unknown
+  pub short-block : accepts (blocks_of 16) (hex 11 0xfff8600203030a00_050a00) (Some 48)
+  pub own_block : accepts (blocks_of 4) (hex 11 0xfff8600203030a00_050a00) (Some 12)
+  pub unknown-block : accepts unknown (hex 11 0xfff8600203030a00_050a00) None
+  pub unknown-block_0 : accepts unknown (hex 11 0xfff8600200033500_050984) None
   -- from the first bit of the first subframe on, the first N are zero
   pub first_bit : clears (hex 8 0xfff860080000bb80) 2 1 4
   pub reserved_type : clears (hex 8 0xfff860080000bb04) 2 1 4

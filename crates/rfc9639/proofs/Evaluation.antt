@@ -2,6 +2,7 @@
 use Prim.Native.Nat.{ℕ, zero, suc, ◌/◌, ◌%◌, ◌^◌}
 use mathlib.Core.List.{List, [], ◌∷◌}
 use lib.IntN.{ℤ, pos, neg_ℤ}
+use Rattle.std.specs.Prelude.{Some, None}
 use Rattle.reading.specs.Readers.{◌>>=◌, bits, zeros, passed, require, many, each, bits_from, zeros_from, reply, follow, run}
 use Rattle.reading.specs.Bytes.{bits_of_byte, bits_of_bytes}
 use Rattle.reading.specs.Places.{run_at, inside, to_at}
@@ -19,8 +20,6 @@ use Rattle.rfc9639.specs.Frame.{checked, opening, widths, padding, footer, body,
 use Rattle.reading.specs.NumbersAsBits.{bits_of, unary, row, spelt, bytes_of, packed}
 use Rattle.rfc9639.specs.declared.FrameSetting.{FrameSetting}
 use Rattle.rfc9639.specs.declared.Settings.{Settings}
-use Rattle.rfc9639.specs.declared.StreamBlock.{StreamBlock}
-use Rattle.rfc9639.specs.declared.StreamRecord.{StreamRecord}
 use Rattle.rfc9639.specs.SubframeCoding.{fold, rice_bits, residual_bits, residuals, fixed_residuals, plain, subframe_header_bits, coded_as, equal_samples, uniform, numbers_from, fixed_candidates, candidates, fewest_of, fewest, cost, chosen, subframe_bits}
 use Rattle.rfc9639.specs.Write.{Written, followers, number_bytes, code_bits, field_bits, header_bits, lane_of, lanes, lane_width, mid_of, side_of, channel_samples, stored, lane_bits, subframes_bits, padded_to_byte, footed, frame_bits, frame_bytes, most_bits, frame_bound, writable, number_limit, allowed, fits, all_fit, unwritten, write}
 use Rattle.rfc9639.specs.Read.{Outcome, refusal, accepted, untouched, zeroed, cut_short, begun, finished, result_of, result, read}
@@ -35,17 +34,17 @@ minus n = neg_ℤ (pos n)
 
 -- settings of the reader: the size of the stream's blocks, or that it is unknown
 abbrev pub blocks_of : ℕ → Settings
-blocks_of size = record { block = StreamBlock.Known size; stream = StreamRecord.Unknown }
+blocks_of size = record { block = Some size; stream = None }
 
 -- the stream's bits and rate, with the size of its blocks or without
 abbrev pub record_of : ℕ → ℕ → Settings
-record_of bits rate = record { block = StreamBlock.Unknown; stream = StreamRecord.Known bits rate }
+record_of bits rate = record { block = None; stream = Some (record { bits = bits; rate = rate }) }
 
 abbrev pub record_and_blocks : ℕ → ℕ → ℕ → Settings
-record_and_blocks bits rate size = record { block = StreamBlock.Known size; stream = StreamRecord.Known bits rate }
+record_and_blocks bits rate size = record { block = Some size; stream = Some (record { bits = bits; rate = rate }) }
 
 abbrev pub unknown : Settings
-unknown = record { block = StreamBlock.Unknown; stream = StreamRecord.Unknown }
+unknown = record { block = None; stream = None }
 
 -- to unfold this is to unfold the whole definition of reading
 unfoldable pub computed : Settings → List ℕ → List ℤ → Outcome

@@ -5,8 +5,7 @@ use mathlib.Core.Path.{◌≡◌, refl}
 use mathlib.Core.List.{List, [], ◌++◌}
 use lib.IntN.{pos}
 use lib.ListN.{length, replicate}
-use Rattle.rfc9639.specs.declared.FirstSample.{FirstSample}
-use Rattle.rfc9639.specs.declared.SampleRate.{SampleRate}
+use Rattle.std.specs.Prelude.{Option, Some, None}
 use Rattle.rfc9639.specs.declared.Settings.{Settings}
 use Rattle.rfc9639.specs.Read.{refusal, read}
 use Rattle.rfc9639.proofs.Evaluation.{hex, record_of, record_and_blocks, unknown, computed}
@@ -16,30 +15,30 @@ abbrev refuses : Settings → List ℕ → ℕ → ℕ → Type 0
 refuses set s room n = read set s (replicate room (pos 7)) ≡ record { report = refusal n; buffer = replicate room (pos 7) }
 
 -- a frame of four samples, all 5, that is accepted with these bits and this rate
-abbrev accepts : Settings → List ℕ → ℕ → SampleRate → Type 0
+abbrev accepts : Settings → List ℕ → ℕ → Option ℕ → Type 0
 accepts set s bits rate =
     read set s (replicate 5 (pos 7))
     ≡ record {
-      report = record { number = 0; consumed = length s; first = FirstSample.Unknown; rate = rate; channels = 1; bits = bits; size = 4 };
+      report = record { number = 0; consumed = length s; first = None; rate = rate; channels = 1; bits = bits; size = 4 };
       buffer = replicate 4 (pos 5) ++ replicate 1 (pos 7);
     }
 
 pub record Given : Type 0 where
   -- bits and rate that the header leaves to the stream
-  pub left : accepts (record_of 8 44100) (hex 11 0xfff860000003e300_05f7bc) 8 (SampleRate.Known 44100)
-  pub left_13 : accepts (record_of 13 0) (hex 12 0xfff860000003e300_002820c1) 13 (SampleRate.Known 0)
+  pub left : accepts (record_of 8 44100) (hex 11 0xfff860000003e300_05f7bc) 8 (Some 44100)
+  pub left_13 : accepts (record_of 13 0) (hex 12 0xfff860000003e300_002820c1) 13 (Some 0)
   pub left_without_record : refuses unknown (hex 12 0xfff860000003e300_002820c1) 5 8
   pub left_24_cut : refuses (record_of 24 1) (hex 7 0xfff860000003e3) 5 2
   pub left_25 : refuses (record_of 25 1) (hex 7 0xfff860000003e3) 5 8
   pub left_32 : refuses (record_of 32 1) (hex 7 0xfff860000003e3) 5 8
   -- the frame's own rate, by every way in which it is stored; the record's counts for nothing then
-  pub own-rate : accepts (record_of 8 1) (hex 11 0xfff8690200039300_0508ec) 8 (SampleRate.Known 44100)
-  pub rate_in_thousands : accepts (record_of 8 1) (hex 12 0xfff86c0200032cd9_000520f1) 8 (SampleRate.Known 44000)
-  pub rate_in_ones : accepts (record_of 8 1) (hex 13 0xfff86d020003ac44_45000574c0) 8 (SampleRate.Known 44100)
-  pub rate_in_tens : accepts unknown (hex 13 0xfff86e020003113a_e50005582c) 8 (SampleRate.Known 44100)
+  pub own-rate : accepts (record_of 8 1) (hex 11 0xfff8690200039300_0508ec) 8 (Some 44100)
+  pub rate_in_thousands : accepts (record_of 8 1) (hex 12 0xfff86c0200032cd9_000520f1) 8 (Some 44000)
+  pub rate_in_ones : accepts (record_of 8 1) (hex 13 0xfff86d020003ac44_45000574c0) 8 (Some 44100)
+  pub rate_in_tens : accepts unknown (hex 13 0xfff86e020003113a_e50005582c) 8 (Some 44100)
   -- a stored rate of 0 is the frame's own
-  pub stored-rate_0 : accepts (record_of 8 44100) (hex 13 0xfff86d0200030000_7a000516f2) 8 (SampleRate.Known 0)
-  pub no_rate : accepts unknown (hex 11 0xfff8600200033500_050984) 8 SampleRate.Unknown
+  pub stored-rate_0 : accepts (record_of 8 44100) (hex 13 0xfff86d0200030000_7a000516f2) 8 (Some 0)
+  pub no_rate : accepts unknown (hex 11 0xfff8600200033500_050984) 8 None
   -- a record that no stream has, before anything, also where the frame has bits of its own
   pub bits_3_of_nothing : refuses (record_of 3 44100) [] 2 11
   pub bits_33_of_nothing : refuses (record_of 33 44100) [] 2 11
@@ -48,7 +47,7 @@ pub record Given : Type 0 where
   pub bits_4_of_nothing : refuses (record_of 4 44100) [] 2 1
   pub bits_32_of_nothing : refuses (record_of 32 44100) [] 2 1
   -- own bits that are not the stream's: after the CRC-8, before the room, whatever the subframes
-  pub same_bits : accepts (record_of 8 44100) (hex 11 0xfff8600200033500_050984) 8 (SampleRate.Known 44100)
+  pub same_bits : accepts (record_of 8 44100) (hex 11 0xfff8600200033500_050984) 8 (Some 44100)
   pub sum-before-other-bits : refuses (record_of 16 44100) (hex 7 0xfff86002000334) 5 6
   pub other-bits-before-room : refuses (record_of 16 44100) (hex 7 0xfff86002000335) 3 9
   pub other-bits-before-subframe : refuses (record_of 16 44100) (hex 8 0xfff8600200033580) 5 9

@@ -1,11 +1,9 @@
 -- A whole input, frame by frame: the list of answers, up to and including the refusal that ends it. `answers` holds for
 -- any function `one` that reads one frame, so it knows no setting of the reader.
-use Rattle.std.specs.Prelude.{ℕ, zero, suc, List, [], ◌∷◌, length, drop}
+use Rattle.std.specs.Prelude.{ℕ, zero, suc, Option, Some, None, List, [], ◌∷◌, length, drop}
 use Rattle.reading.specs.Places.{At, got_at, refused_at, short_at, run_at, place_of}
 use Rattle.rfc9639.specs.declared.FrameHeader.{FrameHeader}
 use Rattle.rfc9639.specs.declared.Settings.{Settings}
-use Rattle.rfc9639.specs.declared.StreamBlock.{StreamBlock}
-use Rattle.rfc9639.specs.declared.StreamRecord.{StreamRecord}
 use Rattle.rfc9639.specs.Header.{header}
 use Rattle.rfc9639.specs.Read.{Result}
 
@@ -41,12 +39,12 @@ answers one s = answers_up_to (suc (length s)) one s
 -- ---- a stream that is read from its first frame on
 
 -- the block size in a header, if there is one
-unfoldable pub block_in : At FrameHeader → StreamBlock
-block_in (got_at h at) = StreamBlock.Known h.size
-block_in (refused_at n) = StreamBlock.Unknown
-block_in short_at = StreamBlock.Unknown
+unfoldable pub block_in : At FrameHeader → Option ℕ
+block_in (got_at h at) = Some h.size
+block_in (refused_at n) = None
+block_in short_at = None
 
 -- What a stream without a stream header says about itself: the size of its blocks is that of the first, whatever the
 -- blocking.
 unfoldable pub stream_settings : List ℕ → Settings
-stream_settings s = record { block = block_in (run_at header s (place_of 0)); stream = StreamRecord.Unknown }
+stream_settings s = record { block = block_in (run_at header s (place_of 0)); stream = None }

@@ -1,12 +1,10 @@
 -- The numbers of the frame header that the reader and the writer share (RFC 9639 section 9.1): its constants, and its
 -- code tables, each in both directions. A refusal's number is document 01's.
-use Rattle.std.specs.Prelude.{ℕ, ◌+◌, ◌-◌, ◌*◌, ◌^◌, List, [], leb, ltb, eqb, if◌then◌else◌}
+use Rattle.std.specs.Prelude.{ℕ, ◌+◌, ◌-◌, ◌*◌, ◌^◌, Option, Some, None, List, [], leb, ltb, eqb, if◌then◌else◌}
 use Rattle.reading.specs.Readers.{Ask, done, stop, ◌>>=◌, ◌>>◌, bits, require}
 use Rattle.reading.specs.NumbersAsBits.{bits_of}
 use Rattle.rfc9639.specs.declared.ChannelAssignment.{ChannelAssignment}
 use Rattle.rfc9639.specs.declared.ChannelAssignment.TheVariants.{Independent, LeftSide, SideRight, MidSide}
-use Rattle.rfc9639.specs.declared.SampleRate.{SampleRate}
-use Rattle.rfc9639.specs.declared.SampleRate.TheVariants.{Unknown, Known}
 
 -- ---- constants
 
@@ -75,23 +73,23 @@ rate_bits code =
 
 -- Section 9.1.2 and, for the codes 12 to 14, which count `stored` in thousands, ones and tens, 9.1.7. Code 0 leaves the
 -- rate to the stream; code 15 is refused before. No sample and no refusal depends on the rate.
-unfoldable pub sample_rate : ℕ → ℕ → SampleRate
+unfoldable pub sample_rate : ℕ → ℕ → Option ℕ
 sample_rate code stored =
-    if eqb code 1 then Known 88200
-    else if eqb code 2 then Known 176400
-    else if eqb code 3 then Known 192000
-    else if eqb code 4 then Known 8000
-    else if eqb code 5 then Known 16000
-    else if eqb code 6 then Known 22050
-    else if eqb code 7 then Known 24000
-    else if eqb code 8 then Known 32000
-    else if eqb code 9 then Known 44100
-    else if eqb code 10 then Known 48000
-    else if eqb code 11 then Known 96000
-    else if eqb code 12 then Known (stored * 1000)
-    else if eqb code 13 then Known stored
-    else if eqb code 14 then Known (stored * 10)
-    else Unknown
+    if eqb code 1 then Some 88200
+    else if eqb code 2 then Some 176400
+    else if eqb code 3 then Some 192000
+    else if eqb code 4 then Some 8000
+    else if eqb code 5 then Some 16000
+    else if eqb code 6 then Some 22050
+    else if eqb code 7 then Some 24000
+    else if eqb code 8 then Some 32000
+    else if eqb code 9 then Some 44100
+    else if eqb code 10 then Some 48000
+    else if eqb code 11 then Some 96000
+    else if eqb code 12 then Some (stored * 1000)
+    else if eqb code 13 then Some stored
+    else if eqb code 14 then Some (stored * 10)
+    else None
 
 -- ---- the channels
 

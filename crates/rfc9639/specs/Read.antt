@@ -1,12 +1,10 @@
 -- The whole answer: what the reader reports for some bytes, and what the lent samples hold afterwards. A refusal has
 -- document 01's number; crate `error` names the causes.
-use Rattle.std.specs.Prelude.{ℕ, List, [], ◌∷◌, ◌++◌, ℤ, pos, length, replicate, drop}
+use Rattle.std.specs.Prelude.{ℕ, Option, None, List, [], ◌∷◌, ◌++◌, ℤ, pos, length, replicate, drop}
 use Rattle.reading.specs.declared.Place.{Place}
 use Rattle.reading.specs.Readers.{Ask, done, ◌>>=◌, bits}
 use Rattle.reading.specs.Places.{At, got_at, refused_at, short_at, run_at, place_of}
-use Rattle.rfc9639.specs.declared.FirstSample.{FirstSample}
 use Rattle.rfc9639.specs.declared.FrameHeader.{FrameHeader}
-use Rattle.rfc9639.specs.declared.SampleRate.{SampleRate}
 use Rattle.rfc9639.specs.declared.Settings.{Settings}
 use Rattle.rfc9639.specs.HeaderCodes.{channel_count}
 use Rattle.rfc9639.specs.Header.{sample_count}
@@ -18,14 +16,16 @@ use Rattle.rfc9639.specs.Frame.{ReaderSettings, Frame, opening, frame}
 pub record Report : Type 0 where
   pub number : ℕ
   pub consumed : ℕ
-  pub first : FirstSample
-  pub rate : SampleRate
+  -- None: the header gives a frame's number, and the size of the stream's blocks is unknown
+  pub first : Option ℕ
+  -- None: neither the frame's header nor the caller gives it
+  pub rate : Option ℕ
   pub channels : ℕ
   pub bits : ℕ
   pub size : ℕ
 
 unfoldable pub refusal : ℕ → Report
-refusal n = record { number = n; consumed = 0; first = FirstSample.Unknown; rate = SampleRate.Unknown; channels = 0; bits = 0; size = 0 }
+refusal n = record { number = n; consumed = 0; first = None; rate = None; channels = 0; bits = 0; size = 0 }
 
 unfoldable pub accepted : Settings → FrameHeader → Place → Report
 accepted given h end = record {
