@@ -1,4 +1,3 @@
--- Laws of a block's parts, and that each function has one outcome.
+-- A channel's range, and that each function has one outcome.
 pub mod BlockAccess
-pub mod FilledSamples
 pub mod Outcome

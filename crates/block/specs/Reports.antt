@@ -1,9 +1,7 @@
 -- Document 01's number and values for each answer: 0 and what was asked for, or the refusal's number and zeros.
-use Rattle.std.specs.Prelude.{ℕ, ℤ, pos}
+use Rattle.std.specs.Prelude.{ℕ, ℤ, pos, Result, Ok, Err}
+use Rattle.error.specs.declared.Refusal.{Refusal}
 use Rattle.error.specs.Numbers.{number_of}
-use Rattle.block.specs.declared.ChannelAt.{ChannelAt}
-use Rattle.block.specs.declared.SampleAt.{SampleAt}
-use Rattle.block.specs.declared.PairAt.{PairAt}
 
 pub record ChannelReport : Type 0 where
   pub number : ℕ
@@ -19,14 +17,14 @@ pub record PairReport : Type 0 where
   pub left : ℤ
   pub right : ℤ
 
-abbrev pub channel_report : ChannelAt → ChannelReport
-channel_report (ChannelAt.Range start end) = record { number = 0; start = start; end = end }
-channel_report (ChannelAt.Refused e) = record { number = number_of e; start = 0; end = 0 }
+abbrev pub channel_report : Result (ℕ × ℕ) Refusal → ChannelReport
+channel_report (Ok r) = record { number = 0; start = r.0; end = r.1 }
+channel_report (Err e) = record { number = number_of e; start = 0; end = 0 }
 
-abbrev pub sample_report : SampleAt → SampleReport
-sample_report (SampleAt.Value x) = record { number = 0; value = x }
-sample_report (SampleAt.Refused e) = record { number = number_of e; value = pos 0 }
+abbrev pub sample_report : Result ℤ Refusal → SampleReport
+sample_report (Ok x) = record { number = 0; value = x }
+sample_report (Err e) = record { number = number_of e; value = pos 0 }
 
-abbrev pub pair_report : PairAt → PairReport
-pair_report (PairAt.Values left right) = record { number = 0; left = left; right = right }
-pair_report (PairAt.Refused e) = record { number = number_of e; left = pos 0; right = pos 0 }
+abbrev pub pair_report : Result (ℤ × ℤ) Refusal → PairReport
+pair_report (Ok r) = record { number = 0; left = r.0; right = r.1 }
+pair_report (Err e) = record { number = number_of e; left = pos 0; right = pos 0 }
