@@ -6,12 +6,12 @@ use mathlib.Core.Bool.{cond}
 use lib.Dec.{eqb}
 use Rattle.reading.specs.Readers.{Ask, done, stop, ask, seen, next_bits, next_zeros, bits, ◌>>=◌}
 use Rattle.reading.proofs.Outcome.{OneOutcome, one_value}
+use Rattle.std.specs.Prelude.{Result, Ok, Err}
+use Rattle.error.specs.declared.Refusal.{Refusal}
 use Rattle.error.specs.Numbers.{number_of}
 use Rattle.error.proofs.Outcome.{number-tells}
 use Rattle.header_codes.specs.declared.BlockSize.{BlockSize}
 use Rattle.header_codes.specs.declared.BlockSize.TheVariants.{Samples, InByte, InTwoBytes}
-use Rattle.header_codes.specs.declared.Depth.{Depth}
-use Rattle.header_codes.specs.declared.Depth.TheVariants.{Bits, Refused}
 use Rattle.header_codes.specs.Answers.{size_ask, depth_ask}
 use Rattle.header_codes.specs.contracts.block_size as block_size
 use Rattle.header_codes.proofs.block_size.Reads as block_size_reads
@@ -62,11 +62,11 @@ channel_assignment-one κs args r r' left left' p q = (one_value p q, refl)
 pub channel_count-one : OneOutcome channel_count.ended channel_count_reads.Learnt
 channel_count-one κs args r r' left left' p q = (one_value p q, refl)
 
-depth-one : (r r' : Depth) → depth_ask r ≡ depth_ask r' → r ≡ r'
-depth-one (Bits n) (Bits n') e = let a : n ≡ n' = cc in cc
-depth-one (Bits n) (Refused x) e = absurd (let z : ◌≡◌ {A = ℕ} 0 1 = cc in omega arith)
-depth-one (Refused x) (Bits n) e = absurd (let z : ◌≡◌ {A = ℕ} 0 1 = cc in omega arith)
-depth-one (Refused x) (Refused y) e = ap Refused (number-tells x y (let a : number_of x ≡ number_of y = cc in a))
+depth-one : (r r' : Result ℕ Refusal) → depth_ask r ≡ depth_ask r' → r ≡ r'
+depth-one (Ok n) (Ok n') e = let a : n ≡ n' = cc in cc
+depth-one (Ok n) (Err x) e = absurd (let z : ◌≡◌ {A = ℕ} 0 1 = cc in omega arith)
+depth-one (Err x) (Ok n) e = absurd (let z : ◌≡◌ {A = ℕ} 0 1 = cc in omega arith)
+depth-one (Err x) (Err y) e = ap Err (number-tells x y (let a : number_of x ≡ number_of y = cc in a))
 
 pub bit_depth-one : OneOutcome bit_depth.ended bit_depth_reads.Learnt
 bit_depth-one κs args r r' left left' p q = (depth-one r r' (one_value p q), refl)
