@@ -23,13 +23,6 @@ use rfc9639::FrameSetting;
 use subframe_choice::Choice;
 use subframes::write_subframes;
 
-#[derive(Clone, Copy)]
-pub enum WriteAnswer {
-    // A frame, with its length in bytes.
-    Frame(usize),
-    Refused(Refusal),
-}
-
 // The length of a frame: the header's bytes, those that hold the subframes' bits, and two for the CRC-16.
 fn frame_length(set: FrameSetting, bits: u64) -> usize
     requires { bits ≤ 2 ^ 32 }
@@ -48,7 +41,8 @@ fn write_planned(samples: &[i32], set: FrameSetting, choices: [Choice; 8], out: 
     write_footer(out, after_subframes);
 }
 
-// Writes a frame of samples that stand channel after channel. A refusal leaves the output as it was.
+// Writes a frame of samples that stand channel after channel, and gives its length in bytes. A refusal leaves the output
+// as it was.
 pub fn write_frame(
     samples: &[i32],
     channels: u32,
@@ -57,7 +51,7 @@ pub fn write_frame(
     number: u64,
     size: usize,
     out: &mut [u8],
-) -> WriteAnswer
+) -> Result<usize, Refusal>
     ensures { outcome result out.new ≡ write (setting_of channels bits blocking number size) samples.now out.old }
 {
     let set = FrameSetting {
@@ -68,17 +62,16 @@ pub fn write_frame(
         size,
     };
     if !is_allowed(set, samples.len()) {
-        return WriteAnswer::Refused(Refusal::BadArgument);
+        return Err(Refusal::BadArgument);
     }
     if !all_fit(samples, bits) {
-        return WriteAnswer::Refused(Refusal::SampleRange);
+        return Err(Refusal::SampleRange);
     }
     let plan = plan_frame(samples, set);
     let length = frame_length(set, plan.bits);
     if out.len() < length {
-        return WriteAnswer::Refused(Refusal::OutputRoom);
+        return Err(Refusal::OutputRoom);
     }
-    let choices = plan.choices;
-    write_planned(samples, set, choices, out);
-    WriteAnswer::Frame(length)
+    write_planned(samples, set, plan.choices, out);
+    Ok(length)
 }
