@@ -8,16 +8,15 @@ use mathlib.Core.List.{List}
 use borrow.Author.Tests.{le-leb}
 use lib.Dec.{leb, ltb}
 use lib.IntN.{ℤ}
+use Rattle.std.specs.Prelude.{Option, Some, None}
 use Rattle.reading.specs.declared.Place.{Place}
 use Rattle.reading.specs.Readers.{Ask, done, ◌>>=◌, ◌>>◌, bits, require}
 use Rattle.reading.specs.Places.{At, got_at, refused_at, short_at, place_of, run_at, and_then}
 use Rattle.reading.proofs.ByteRuns.{start_in, stays_in, run_at_bind, run_at-done, bind_got_lem, bind_refused, bind_short, bind_parts, require_holds, require-parts}
 use Rattle.rfc9639.specs.declared.BlockTime.{BlockTime}
 use Rattle.rfc9639.specs.declared.BlockTime.TheVariants.{FrameNumber, SampleNumber}
-use Rattle.rfc9639.specs.declared.FirstSample.{FirstSample}
 use Rattle.rfc9639.specs.declared.FrameHeader.{FrameHeader}
 use Rattle.rfc9639.specs.declared.Settings.{Settings}
-use Rattle.rfc9639.specs.declared.StreamBlock.{StreamBlock}
 use Rattle.rfc9639.specs.declared.StreamRecord.{StreamRecord}
 use Rattle.rfc9639.specs.HeaderCodes.{channel_count}
 use Rattle.rfc9639.specs.Header.{header, sample_count}
@@ -68,7 +67,7 @@ accepted01 : FrameHeader → Place → Report
 accepted01 h end = record {
   number = 0;
   consumed = end.byte;
-  first = FirstSample.Known (first_own h);
+  first = Some (first_own h);
   rate = h.rate;
   channels = channel_count h.channels;
   bits = h.bits;
@@ -91,11 +90,11 @@ document01 room bytes = result_of01 bytes (run_at (begun01 room) bytes (place_of
 -- ---- where reading with settings is document 01's
 
 -- in a stream of such blocks the header's block belongs to the stream, and its first sample is document 01's
-pub record Alike (blocks : StreamBlock) (h : FrameHeader) : Type 0 where
+pub record Alike (blocks : Option ℕ) (h : FrameHeader) : Type 0 where
   pub block : block_fits blocks h.time h.size ≡ true
-  pub first : first_sample blocks h.time ≡ FirstSample.Known (first_own h)
+  pub first : first_sample blocks h.time ≡ Some (first_own h)
 
-module _ (set : ReaderSettings) (s : List ℕ) (none : set.given.stream ≡ StreamRecord.Unknown) (ok : possible set.given ≡ true)
+module _ (set : ReaderSettings) (s : List ℕ) (none : set.given.stream ≡ None) (ok : possible set.given ≡ true)
     (alike : (h : FrameHeader) (p : Place) → run_at header s (place_of 0) ≡ got_at h p → Alike set.given.block h) where
   -- the checks after the header are document 01's
   same_checks : (h : FrameHeader) (p : Place) → run_at header s (place_of 0) ≡ got_at h p
@@ -145,7 +144,7 @@ module _ (set : ReaderSettings) (s : List ℕ) (none : set.given.stream ≡ Stre
         read : (xs : List ℤ) (q : Place) (b : At FrameHeader)
             → result_of set.given s b (got_at (record { header = h; samples = xs }) q) ≡ result_of01 s b (got_at (record { header = h; samples = xs }) q)
         read xs q (got_at g r) =
-            ap (λ (x : FirstSample). record { report = record { number = 0; consumed = q.byte; first = x; rate = h.rate; channels = channel_count h.channels; bits = h.bits; size = h.size }; front = xs }) same.first
+            ap (λ (x : Option ℕ). record { report = record { number = 0; consumed = q.byte; first = x; rate = h.rate; channels = channel_count h.channels; bits = h.bits; size = h.size }; front = xs }) same.first
         read xs q (refused_at n) = refl
         read xs q short_at = refl
 
@@ -191,7 +190,7 @@ module _ (set : ReaderSettings) (s : List ℕ) (none : set.given.stream ≡ Stre
 
 -- ---- so it is for a frame whose own size is the one given, and under variable blocking
 
-same_size : {h : FrameHeader} (block : StreamBlock) → block ≡ StreamBlock.Known h.size → Alike block h
+same_size : {h : FrameHeader} (block : Option ℕ) → block ≡ Some h.size → Alike block h
 unfolding block_fits first_sample first_own
 same_size {h} block e = go h.time refl
   where
@@ -199,18 +198,18 @@ same_size {h} block e = go h.time refl
     go (FrameNumber n) f = record { block = rw (e, f, le-leb h.size h.size (omega arith)) refl; first = rw (e, f) refl }
     go (SampleNumber n) f = record { block = rw (e, f) refl; first = rw f refl }
 
-module _ (given : Settings) (none : given.stream ≡ StreamRecord.Unknown) (room : ℕ) (s : List ℕ) {h : FrameHeader} {p : Place}
+module _ (given : Settings) (none : given.stream ≡ None) (room : ℕ) (s : List ℕ) {h : FrameHeader} {p : Place}
     (e : run_at header s (place_of 0) ≡ got_at h p) where
   -- there is one header
   the_header : {g : FrameHeader} {q : Place} → run_at header s (place_of 0) ≡ got_at g q → h ≡ g
   the_header f = let d = sym e ∙ f in cc
 
-  pub own-size-stands : given.block ≡ StreamBlock.Known h.size → result (record { given = given; room = room }) s ≡ document01 room s
+  pub own-size-stands : given.block ≡ Some h.size → result (record { given = given; room = room }) s ≡ document01 room s
   own-size-stands is =
       stands (record { given = given; room = room }) s none
-      (ap₂ (λ (b : StreamBlock) (x : StreamRecord). possible (record { block = b; stream = x })) is none
+      (ap₂ (λ (b : Option ℕ) (x : Option StreamRecord). possible (record { block = b; stream = x })) is none
       ∙ size-possible (header-sound s e).some (header-sound s e).size)
-      (λ g q f. same_size given.block (is ∙ ap (λ (x : FrameHeader). StreamBlock.Known x.size) (the_header f)))
+      (λ g q f. same_size given.block (is ∙ ap (λ (x : FrameHeader). Some x.size) (the_header f)))
 
   pub variable_stands : possible given ≡ true → {n : ℕ} → h.time ≡ SampleNumber n → result (record { given = given; room = room }) s ≡ document01 room s
   unfolding block_fits first_sample first_own
@@ -218,9 +217,9 @@ module _ (given : Settings) (none : given.stream ≡ StreamRecord.Unknown) (room
       stands (record { given = given; room = room }) s none ok
       (λ g q f. timed g given.block (ap (λ (x : FrameHeader). x.time) (sym (the_header f)) ∙ is))
     where
-      timed : (g : FrameHeader) (block : StreamBlock) → g.time ≡ SampleNumber n → Alike block g
-      timed g (StreamBlock.Known size) t = record { block = rw t refl; first = rw t refl }
-      timed g StreamBlock.Unknown t = record { block = refl; first = rw t refl }
+      timed : (g : FrameHeader) (block : Option ℕ) → g.time ≡ SampleNumber n → Alike block g
+      timed g (Some size) t = record { block = rw t refl; first = rw t refl }
+      timed g None t = record { block = refl; first = rw t refl }
 
 -- each frame by itself, with the settings that its own header gives, is read as document 01 has it
 pub each_by_itself : (room : ℕ) (s : List ℕ) → result (record { given = stream_settings s; room = room }) s ≡ document01 room s

@@ -9,14 +9,13 @@ use mathlib.Core.List.{List}
 use borrow.Author.Tests.{eq-eqb}
 use lib.Dec.{eqb}
 use lib.IntN.{ℤ}
+use Rattle.std.specs.Prelude.{Option, Some, None}
 use Rattle.reading.specs.declared.Place.{Place}
 use Rattle.reading.specs.Readers.{bits}
 use Rattle.reading.specs.Places.{At, got_at, refused_at, short_at, place_of, run_at}
 use Rattle.reading.proofs.ByteRuns.{and_fst}
 use Rattle.reading.proofs.Postconditions.{Meets, holds_at, holds_bits}
 use Rattle.rfc9639.specs.declared.FrameHeader.{FrameHeader}
-use Rattle.rfc9639.specs.declared.SampleRate.{SampleRate}
-use Rattle.rfc9639.specs.declared.StreamBlock.{StreamBlock}
 use Rattle.rfc9639.specs.declared.StreamRecord.{StreamRecord}
 use Rattle.rfc9639.specs.Header.{header, sample_count}
 use Rattle.rfc9639.specs.Stream.{in_range, bits_in_range, possible, bits_or, completed, bits_read, bits_fit, block_fits}
@@ -30,7 +29,7 @@ unrated_report r = record {
   number = r.number;
   consumed = r.consumed;
   first = r.first;
-  rate = SampleRate.Unknown;
+  rate = None;
   channels = r.channels;
   bits = r.bits;
   size = r.size;
@@ -40,16 +39,16 @@ abbrev pub unrated : Result → Result
 unrated r = record { report = unrated_report r.report; front = r.front }
 
 -- a header but for its rate, which is this one
-abbrev rated : SampleRate → FrameHeader → FrameHeader
+abbrev rated : Option ℕ → FrameHeader → FrameHeader
 rated rate h = record { time = h.time; size = h.size; rate = rate; channels = h.channels; bits = h.bits }
 
-module _ (block : StreamBlock) (room : ℕ) (s : List ℕ) where
-  abbrev pub under : StreamRecord → ReaderSettings
+module _ (block : Option ℕ) (room : ℕ) (s : List ℕ) where
+  abbrev pub under : Option StreamRecord → ReaderSettings
   under stream = record { given = record { block = block; stream = stream }; room = room }
 
   -- ---- two records that complete the header alike but for the rate
 
-  module _ (x y : StreamRecord) (ok : possible (under x).given ≡ true) (ok' : possible (under y).given ≡ true) where
+  module _ (x y : Option StreamRecord) (ok : possible (under x).given ≡ true) (ok' : possible (under y).given ≡ true) where
     abbrev Same : Type 0
     Same = unrated (result (under x) s) ≡ unrated (result (under y) s)
 
@@ -57,7 +56,7 @@ module _ (block : StreamBlock) (room : ℕ) (s : List ℕ) where
     both e f g = ap unrated e ∙ g ∙ sym (ap unrated f)
 
     module _ {own h : FrameHeader} {p : Place} (e : run_at header s (place_of 0) ≡ got_at own p) (whole : h ≡ completed x own)
-        {rate : SampleRate} (twin : rated rate h ≡ completed y own) where
+        {rate : Option ℕ} (twin : rated rate h ≡ completed y own) where
       module _ (some : bits_read h.bits ≡ true) where
         module _ (equal : bits_fit x h.bits ≡ true) (equal' : bits_fit y h.bits ≡ true) where
           module _ (within : block_fits block h.time h.size ≡ true) where
@@ -100,7 +99,7 @@ module _ (block : StreamBlock) (room : ℕ) (s : List ℕ) where
       bits-alike one false none = both (cases.no_bits (under x) s ok e whole none) (cases.no_bits (under y) s ok' e twin none) refl
 
     record Twins (own : FrameHeader) : Type 0 where
-      rate : SampleRate
+      rate : Option ℕ
       twin : rated rate (completed x own) ≡ completed y own
       fit : bits_fit x (completed x own).bits ≡ bits_fit y (completed x own).bits
 
@@ -115,27 +114,27 @@ module _ (block : StreamBlock) (room : ℕ) (s : List ℕ) where
   -- ---- the laws
 
   -- the rate of a record changes nothing but the rate in the report
-  pub rate_sways_nothing : (bits rate rate' : ℕ) → unrated (result (under (StreamRecord.Known bits rate)) s) ≡ unrated (result (under (StreamRecord.Known bits rate')) s)
+  pub rate_sways_nothing : (bits rate rate' : ℕ) → unrated (result (under (Some (record { bits = bits; rate = rate }))) s) ≡ unrated (result (under (Some (record { bits = bits; rate = rate' }))) s)
   unfolding possible bits_in_range completed bits_fit
   rate_sways_nothing bits rate rate' = go (possible (under x).given) refl
     where
-      x : StreamRecord
-      x = StreamRecord.Known bits rate
+      x : Option StreamRecord
+      x = Some (record { bits = bits; rate = rate })
 
-      y : StreamRecord
-      y = StreamRecord.Known bits rate'
+      y : Option StreamRecord
+      y = Some (record { bits = bits; rate = rate' })
 
       go : (b : Bool) → possible (under x).given ≡ b → unrated (result (under x) s) ≡ unrated (result (under y) s)
       go true ok = alike x y ok ok (λ own p e. record { rate = (completed y own).rate; twin = refl; fit = refl })
       go false bad = ap unrated (cases.impossible (under x) s bad ∙ sym (cases.impossible (under y) s bad))
 
   -- for a frame that has the stream's bits as its own, a record changes nothing but the rate
-  pub same_bits : (bits rate : ℕ) → possible (under (StreamRecord.Known bits rate)).given ≡ true
+  pub same_bits : (bits rate : ℕ) → possible (under (Some (record { bits = bits; rate = rate }))).given ≡ true
       → ((h : FrameHeader) (p : Place) → run_at header s (place_of 0) ≡ got_at h p → h.bits ≡ bits)
-      → unrated (result (under (StreamRecord.Known bits rate)) s) ≡ unrated (result (under StreamRecord.Unknown) s)
+      → unrated (result (under (Some (record { bits = bits; rate = rate }))) s) ≡ unrated (result (under None) s)
   unfolding possible bits_in_range completed bits_or bits_fit
   same_bits bits rate ok equal =
-      alike (StreamRecord.Known bits rate) StreamRecord.Unknown ok (rw (and_fst (in_range block) _ ok) refl)
+      alike (Some (record { bits = bits; rate = rate })) None ok (rw (and_fst (in_range block) _ ok) refl)
       (λ own p e. let same = is own (equal own p e) in
       record {
         rate = own.rate;

@@ -5,6 +5,7 @@ use mathlib.Core.Bool.{Bool, true, false, ◌&&◌}
 use mathlib.Core.Path.{◌≡◌, refl}
 use borrow.Author.Tests.{ltb-true, leb-true, lt-ltb, le-leb}
 use lib.Dec.{leb, ltb}
+use Rattle.std.specs.Prelude.{Option, Some, None}
 use Rattle.reading.proofs.ByteRuns.{and_fst, and_snd}
 use Rattle.rfc9639.specs.declared.FrameHeader.{FrameHeader}
 use Rattle.rfc9639.specs.declared.StreamRecord.{StreamRecord}
@@ -14,32 +15,32 @@ use Rattle.demands.proofs.Headers.{Sound}
 
 -- ---- a header with the stream's values has its own time, size and channels
 
-pub completed_time : (stream : StreamRecord) (h : FrameHeader) → (completed stream h).time ≡ h.time
+pub completed_time : (stream : Option StreamRecord) (h : FrameHeader) → (completed stream h).time ≡ h.time
 unfolding completed
-completed_time StreamRecord.Unknown h = refl
-completed_time (StreamRecord.Known bits rate) h = refl
+completed_time None h = refl
+completed_time (Some r) h = refl
 
-pub completed-size : (stream : StreamRecord) (h : FrameHeader) → (completed stream h).size ≡ h.size
+pub completed-size : (stream : Option StreamRecord) (h : FrameHeader) → (completed stream h).size ≡ h.size
 unfolding completed
-completed-size StreamRecord.Unknown h = refl
-completed-size (StreamRecord.Known bits rate) h = refl
+completed-size None h = refl
+completed-size (Some r) h = refl
 
-pub completed-channels : (stream : StreamRecord) (h : FrameHeader) → (completed stream h).channels ≡ h.channels
+pub completed-channels : (stream : Option StreamRecord) (h : FrameHeader) → (completed stream h).channels ≡ h.channels
 unfolding completed
-completed-channels StreamRecord.Unknown h = refl
-completed-channels (StreamRecord.Known bits rate) h = refl
+completed-channels None h = refl
+completed-channels (Some r) h = refl
 
 -- so it has as many samples
-pub completed-count : (stream : StreamRecord) (h : FrameHeader) → sample_count (completed stream h) ≡ sample_count h
+pub completed-count : (stream : Option StreamRecord) (h : FrameHeader) → sample_count (completed stream h) ≡ sample_count h
 unfolding completed sample_count
-completed-count StreamRecord.Unknown h = refl
-completed-count (StreamRecord.Known bits rate) h = refl
+completed-count None h = refl
+completed-count (Some r) h = refl
 
 -- the stream can have up to 32 bits, so these are for the check after it
-pub completed-sound : (stream : StreamRecord) {h : FrameHeader} → Sound h → (completed stream h).bits ≤ 24 → Sound (completed stream h)
+pub completed-sound : (stream : Option StreamRecord) {h : FrameHeader} → Sound h → (completed stream h).bits ≤ 24 → Sound (completed stream h)
 unfolding completed
-completed-sound StreamRecord.Unknown sound few = sound
-completed-sound (StreamRecord.Known bits rate) sound few = record {
+completed-sound None sound few = sound
+completed-sound (Some r) sound few = record {
   some = sound.some;
   size = sound.size;
   mono = sound.mono;

@@ -8,6 +8,7 @@ use borrow.Author.Tests.{le-leb, eq-eqb}
 use lib.IntN.{ℤ}
 use lib.ListN.{length, replicate}
 use lib.Pow.{pow_pos}
+use Rattle.std.specs.Prelude.{Option}
 use Rattle.reading.specs.Readers.{each}
 use Rattle.reading.specs.NumbersAsBits.{bits_of}
 use Rattle.reading.proofs.Postconditions.{Every}
@@ -15,7 +16,6 @@ use Rattle.reading.proofs.NumbersAsBits.{bits_of-zero}
 use Rattle.rfc9639.specs.declared.FrameHeader.{FrameHeader}
 use Rattle.rfc9639.specs.declared.FrameSetting.{FrameSetting}
 use Rattle.rfc9639.specs.declared.Lane.{Lane}
-use Rattle.rfc9639.specs.declared.SampleRate.{SampleRate}
 use Rattle.rfc9639.specs.declared.Settings.{Settings}
 use Rattle.rfc9639.specs.CheckSums.{crc16}
 use Rattle.rfc9639.specs.HeaderCodes.{assignment}
@@ -73,7 +73,7 @@ module _ (set : FrameSetting) (xs : List ℤ) (ok : Allowed set (length xs)) (fi
       (spells_each (Held set.bits set.size xs) (lane_bits set.bits set.size xs) (subframe set.size) (lane_width set.bits) (stored set.size xs) spells_lane (lanes a)
       (lanes-held set.size xs some ok.depth.most fit a ok.samples))
 
-  spells_body : (rate : SampleRate) → Spells (header_bits set) (body (header_of rate set)) (subframes_bits set xs ++ footer_bits (header_bits set ++ subframes_bits set xs)) xs
+  spells_body : (rate : Option ℕ) → Spells (header_bits set) (body (header_of rate set)) (subframes_bits set xs ++ footer_bits (header_bits set ++ subframes_bits set xs)) xs
   unfolding body
   spells_body rate =
       spells_bind _ spells_subframes

@@ -6,6 +6,7 @@ use mathlib.Core.Bool.{Bool, true, false, cond, ◌||◌}
 use mathlib.Core.List.{List, [], ◌++◌, append_assoc}
 use borrow.Author.Tests.{lt-ltb, le-leb, leb-true, eq-eqb, eqb-true}
 use lib.Dec.{leb, eqb}
+use Rattle.std.specs.Prelude.{Option, None}
 use Rattle.reading.specs.Readers.{done}
 use Rattle.reading.specs.Bytes.{bits_of_bytes}
 use Rattle.reading.specs.NumbersAsBits.{bits_of}
@@ -13,7 +14,6 @@ use Rattle.reading.proofs.NumbersAsBits.{bits_of-split, bits_of_mod}
 use Rattle.rfc9639.specs.declared.Codes.{Codes}
 use Rattle.rfc9639.specs.declared.FrameHeader.{FrameHeader}
 use Rattle.rfc9639.specs.declared.FrameSetting.{FrameSetting}
-use Rattle.rfc9639.specs.declared.SampleRate.{SampleRate}
 use Rattle.rfc9639.specs.CheckSums.{crc8}
 use Rattle.rfc9639.specs.HeaderCodes.{assignment, block_size, rate_bits, sample_rate, size_code, size_bits, bits_code}
 use Rattle.rfc9639.specs.Header.{time_of, sync, size_and_rate, depth_and_zero, channels_and_bits, codes, block_time, header_sum, header_after_codes, header}
@@ -126,7 +126,7 @@ spells_sum {before} =
 
 -- ---- the whole header
 
-abbrev pub header_of : SampleRate → FrameSetting → FrameHeader
+abbrev pub header_of : Option ℕ → FrameSetting → FrameHeader
 header_of rate set = record {
   time = time_of set.blocking set.number;
   size = set.size;
@@ -156,7 +156,7 @@ module _ (set : FrameSetting) {count : ℕ} (ok : Allowed set count) where
       (spells_bind _ (spells_size_and_rate (size_code set.size) size_is.some size_is.most)
       (spells_last _ (spells_channels_and_bits set.channels ok.channels ok.depth) spells_done)))
 
-  spells_after-codes : Spells (code_bits set) (header_after_codes codes_of) (bits_of_bytes (number_bytes set.number) ++ size_bits set.size ++ bits_of 8 (crc8 (field_bits set))) (header_of SampleRate.Unknown set)
+  spells_after-codes : Spells (code_bits set) (header_after_codes codes_of) (bits_of_bytes (number_bytes set.number) ++ size_bits set.size ++ bits_of 8 (crc8 (field_bits set))) (header_of None set)
   unfolding header_after_codes field_bits size_bits codes_of rate_bits sample_rate bits_of
   spells_after-codes =
       spells_as (sym (append_assoc (bits_of_bytes (number_bytes set.number)) (size_bits set.size) (bits_of 8 (crc8 (field_bits set)))))
@@ -166,6 +166,6 @@ module _ (set : FrameSetting) {count : ℕ} (ok : Allowed set count) where
       (spells_last _ spells_sum spells_done))))
 
   -- as it is read: the writer leaves the rate to the stream
-  pub spells_header : Spells [] header (header_bits set) (header_of SampleRate.Unknown set)
+  pub spells_header : Spells [] header (header_bits set) (header_of None set)
   unfolding header header_bits field_bits
   spells_header = spells_as (simp append_assoc) (spells_bind _ spells_codes spells_after-codes)

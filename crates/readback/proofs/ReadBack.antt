@@ -8,17 +8,15 @@ use mathlib.Core.Bool.{Bool, true, false}
 use mathlib.Core.List.{List, [], ◌++◌, append_assoc, append-nil}
 use lib.IntN.{ℤ}
 use lib.ListN.{length, drop}
+use Rattle.std.specs.Prelude.{Option, Some, None}
 use Rattle.reading.specs.declared.Place.{Place}
 use Rattle.reading.specs.Readers.{Ask, run}
 use Rattle.reading.specs.Bytes.{bits_of_bytes}
 use Rattle.reading.specs.Places.{place_of, got_at, to_at, run_at}
 use Rattle.reading.proofs.ByteRuns.{place_is, start_in, run_at_in}
 use Rattle.reading.proofs.BytePrefixes.{bits_of_bytes_append}
-use Rattle.rfc9639.specs.declared.FirstSample.{FirstSample}
 use Rattle.rfc9639.specs.declared.FrameSetting.{FrameSetting}
-use Rattle.rfc9639.specs.declared.SampleRate.{SampleRate}
 use Rattle.rfc9639.specs.declared.Settings.{Settings}
-use Rattle.rfc9639.specs.declared.StreamBlock.{StreamBlock}
 use Rattle.rfc9639.specs.HeaderCodes.{assignment, channel_count}
 use Rattle.rfc9639.specs.Header.{header}
 use Rattle.rfc9639.specs.Stream.{possible, bits_fit}
@@ -40,7 +38,7 @@ use Rattle.readback.proofs.StreamBlock.{first_is, completed_is, smaller_unfit}
 use Rattle.readback.proofs.Frame.{spells_frame}
 
 -- the report on a written frame
-abbrev pub written_report : FrameSetting → ℕ → FirstSample → SampleRate → Report
+abbrev pub written_report : FrameSetting → ℕ → Option ℕ → Option ℕ → Report
 written_report set consumed first rate = record {
   number = 0;
   consumed = consumed;
@@ -62,21 +60,21 @@ module _ (set : FrameSetting) (xs : List ℤ) (rest : List ℕ) where
       (bits_of_bytes_append (frame_bytes set xs) rest ∙ ap (λ t. t ++ bits_of_bytes rest) (bits_of-frame set xs ∙ starts) ∙ append_assoc bs more (bits_of_bytes rest))
       ∙ ap to_at (s.reads (more ++ bits_of_bytes rest))
 
-  abbrev written_frame : SampleRate → Frame
+  abbrev written_frame : Option ℕ → Frame
   written_frame rate = record { header = header_of rate set; samples = xs }
 
   abbrev end : Place
   end = record { byte = length (frame_bytes set xs); bit = 0 }
 
-  run-frame : (reader : ReaderSettings) {rate : SampleRate} → Spells [] (frame reader) (frame_bits set xs) (written_frame rate)
+  run-frame : (reader : ReaderSettings) {rate : Option ℕ} → Spells [] (frame reader) (frame_bits set xs) (written_frame rate)
       → run_at (frame reader) (frame_bytes set xs ++ rest) (place_of 0) ≡ got_at (written_frame rate) end
   run-frame reader {rate} s =
       run_written (frame reader) (frame_bits set xs) [] (sym (append-nil (frame_bits set xs))) s
       ∙ ap (got_at (written_frame rate)) (sym (place_is (length (frame_bytes set xs)) 0 (0 + length (frame_bits set xs)) (omega arith) (omega (arith, length-frame_bits set xs))))
 
   -- the frame's bits start with those of its header
-  run-header : Spells [] header (header_bits set) (header_of SampleRate.Unknown set)
-      → run_at header (frame_bytes set xs ++ rest) (place_of 0) ≡ got_at (header_of SampleRate.Unknown set) (place_of (0 + length (header_bits set)))
+  run-header : Spells [] header (header_bits set) (header_of None set)
+      → run_at header (frame_bytes set xs ++ rest) (place_of 0) ≡ got_at (header_of None set) (place_of (0 + length (header_bits set)))
   unfolding frame_bits footed padded_to_byte
   run-header s = run_written header (header_bits set) _ (append_assoc (header_bits set ++ subframes_bits set xs) _ _ ∙ append_assoc (header_bits set) _ _) s
 
@@ -123,7 +121,7 @@ module _ (given : Settings) (set : FrameSetting) (xs : List ℤ) where
       (other-bits reader s can (run-header set xs rest (spells_header set facts)) (sym (completed_is given.stream set some)) (bits_read_lem some facts.depth.most) other)
 
   -- .. and with fixed blocking a frame whose block is larger than the stream's
-  pub smaller_refused : possible given ≡ true → set.blocking ≡ 0 → {size : ℕ} → given.block ≡ StreamBlock.Known size → size < set.size
+  pub smaller_refused : possible given ≡ true → set.blocking ≡ 0 → {size : ℕ} → given.block ≡ Some size → size < set.size
       → allowed set (length xs) ≡ true → (rest : List ℕ) (buffer : List ℤ)
       → read given (frame_bytes set xs ++ rest) buffer ≡ record { report = refusal 9; buffer = buffer }
   unfolding untouched

@@ -5,14 +5,12 @@ use mathlib.Core.Path.{◌≡◌, refl, ap, ◌∙◌}
 use mathlib.Core.Bool.{Bool, true, false, cond}
 use borrow.Author.Tests.{eq-eqb, ne_eqb, le-leb, lt-leb}
 use lib.Dec.{eqb}
+use Rattle.std.specs.Prelude.{Option, Some, None}
 use Rattle.reading.proofs.ByteRuns.{and_fst, and_snd}
 use Rattle.rfc9639.specs.declared.BlockTime.{BlockTime}
 use Rattle.rfc9639.specs.declared.BlockTime.TheVariants.{FrameNumber, SampleNumber}
-use Rattle.rfc9639.specs.declared.FirstSample.{FirstSample}
 use Rattle.rfc9639.specs.declared.FrameSetting.{FrameSetting}
-use Rattle.rfc9639.specs.declared.SampleRate.{SampleRate}
 use Rattle.rfc9639.specs.declared.Settings.{Settings}
-use Rattle.rfc9639.specs.declared.StreamBlock.{StreamBlock}
 use Rattle.rfc9639.specs.declared.StreamRecord.{StreamRecord}
 use Rattle.rfc9639.specs.Header.{time_of}
 use Rattle.rfc9639.specs.Stream.{in_range, bits_in_range, possible, rate_or, bits_or, completed, bits_fit, block_fits, first_sample}
@@ -26,33 +24,33 @@ use Rattle.readback.proofs.Header.{header_of}
 abbrev timed : Bool → ℕ → BlockTime
 timed fixed n = cond fixed (FrameNumber n) (SampleNumber n)
 
-pub first_is : (block : StreamBlock) (set : FrameSetting) → first_sample block (time_of set.blocking set.number) ≡ first_of block set
+pub first_is : (block : Option ℕ) (set : FrameSetting) → first_sample block (time_of set.blocking set.number) ≡ first_of block set
 unfolding first_sample first_of first_of_fixed time_of
 first_is block set = go block (eqb set.blocking 0)
   where
-    go : (block : StreamBlock) (fixed : Bool) → first_sample block (timed fixed set.number) ≡ cond fixed (first_of_fixed block set) (FirstSample.Known set.number)
-    go StreamBlock.Unknown true = refl
-    go StreamBlock.Unknown false = refl
-    go (StreamBlock.Known size) true = refl
-    go (StreamBlock.Known size) false = refl
+    go : (block : Option ℕ) (fixed : Bool) → first_sample block (timed fixed set.number) ≡ cond fixed (first_of_fixed block set) (Some set.number)
+    go None true = refl
+    go None false = refl
+    go (Some size) true = refl
+    go (Some size) false = refl
 
 -- the reader's test of the block, of a written frame
-fits_is : (block : StreamBlock) (set : FrameSetting)
+fits_is : (block : Option ℕ) (set : FrameSetting)
     → block_fits block (time_of set.blocking set.number) set.size ≡ cond (eqb set.blocking 0) (not_below block set.size) true
 unfolding block_fits not_below time_of
 fits_is block set = go block (eqb set.blocking 0)
   where
-    go : (block : StreamBlock) (fixed : Bool) → block_fits block (timed fixed set.number) set.size ≡ cond fixed (not_below block set.size) true
-    go StreamBlock.Unknown true = refl
-    go StreamBlock.Unknown false = refl
-    go (StreamBlock.Known size) true = refl
-    go (StreamBlock.Known size) false = refl
+    go : (block : Option ℕ) (fixed : Bool) → block_fits block (timed fixed set.number) set.size ≡ cond fixed (not_below block set.size) true
+    go None true = refl
+    go None false = refl
+    go (Some size) true = refl
+    go (Some size) false = refl
 
 -- of what the writer leaves to the stream there is the rate alone
-pub completed_is : (stream : StreamRecord) (set : FrameSetting) → 0 < set.bits → completed stream (header_of SampleRate.Unknown set) ≡ header_of (rate_of stream) set
+pub completed_is : (stream : Option StreamRecord) (set : FrameSetting) → 0 < set.bits → completed stream (header_of None set) ≡ header_of (rate_of stream) set
 unfolding completed rate_of rate_or bits_or
-completed_is StreamRecord.Unknown set some = refl
-completed_is (StreamRecord.Known bits rate) set some = rw (ne_eqb set.bits 0 (omega arith)) refl
+completed_is None set some = refl
+completed_is (Some r) set some = rw (ne_eqb set.bits 0 (omega arith)) refl
 
 module _ (given : Settings) (set : FrameSetting) where
   module _ (can : readable given set ≡ true) where
@@ -69,7 +67,7 @@ module _ (given : Settings) (set : FrameSetting) where
     readable-fits = fits_is given.block set ∙ and_snd (bits_fit given.stream set.bits) _ (and_snd (possible given) _ can)
 
   -- with fixed blocking, a size below the frame's
-  pub smaller_unfit : set.blocking ≡ 0 → {size : ℕ} → given.block ≡ StreamBlock.Known size → size < set.size
+  pub smaller_unfit : set.blocking ≡ 0 → {size : ℕ} → given.block ≡ Some size → size < set.size
       → block_fits given.block (time_of set.blocking set.number) set.size ≡ false
   unfolding not_below
   smaller_unfit fixed {size} known less =
@@ -85,11 +83,11 @@ module _ (given : Settings) (set : FrameSetting) where
     pub range : bits_in_range given.stream ≡ true
     pub equal : bits_fit given.stream set.bits ≡ true
 
-  pub no_record : given.stream ≡ StreamRecord.Unknown → SameBits
+  pub no_record : given.stream ≡ None → SameBits
   unfolding bits_in_range bits_fit
   no_record none = record { range = ap bits_in_range none; equal = ap (λ x. bits_fit x set.bits) none }
 
-  pub equal-bits : {rate : ℕ} → given.stream ≡ StreamRecord.Known set.bits rate → 4 ≤ set.bits → set.bits ≤ 32 → SameBits
+  pub equal-bits : {rate : ℕ} → given.stream ≡ Some (record { bits = set.bits; rate = rate }) → 4 ≤ set.bits → set.bits ≤ 32 → SameBits
   unfolding bits_in_range bits_fit
   equal-bits {rate} known some few = record {
     range = ap bits_in_range known ∙ rw (le-leb 4 set.bits some, le-leb set.bits 32 few) refl;
@@ -109,11 +107,11 @@ module _ (given : Settings) (set : FrameSetting) where
     variable_readable variable can = readable_by (and_fst (in_range given.block) _ can) (ap (λ b. eqb b 0) variable) refl
 
     -- with fixed blocking, an unknown size, and every size from the frame's to the largest
-    pub unknown-readable : set.blocking ≡ 0 → given.block ≡ StreamBlock.Unknown → readable given set ≡ true
+    pub unknown-readable : set.blocking ≡ 0 → given.block ≡ None → readable given set ≡ true
     unfolding in_range not_below
     unknown-readable fixed unknown = readable_by (ap in_range unknown) (ap (λ b. eqb b 0) fixed) (ap (λ block. not_below block set.size) unknown)
 
-    pub known-readable : set.blocking ≡ 0 → {size : ℕ} → given.block ≡ StreamBlock.Known size → 0 < set.size → set.size ≤ size → size ≤ 65535
+    pub known-readable : set.blocking ≡ 0 → {size : ℕ} → given.block ≡ Some size → 0 < set.size → set.size ≤ size → size ≤ 65535
         → readable given set ≡ true
     unfolding not_below
     known-readable fixed {size} known some within few =
