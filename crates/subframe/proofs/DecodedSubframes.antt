@@ -2,7 +2,7 @@
 use Prim.Native.Nat.{ℕ, suc, ◌+◌, ◌-◌, ◌^◌, ◌≤◌, ◌<◌}
 use native.Mathlib.Numerals.{add-one}
 use native.Mathlib.Omega.{arith}
-use mathlib.Core.Path.{◌≡◌, refl, ap, ap₂, sym, ◌∙◌, subst}
+use mathlib.Core.Path.{◌≡◌, refl, ap, ap₂, sym, ◌∙◌}
 use mathlib.Core.List.{List, [], ◌∷◌, ◌++◌, map, append-nil}
 use borrow.Author.Tests.{le-leb, lt-leb}
 use borrow.Rule.Slice.PartMut.{put_mid}
@@ -12,12 +12,15 @@ use lib.Seq.{take-suc-set, drop-set-lt, drop-cons, append_snoc, take_all, drop-l
 use mir.Syntax.{w32}
 use mir.Val.{SFits, to_z, of_z}
 use mir.Facts.{to_z-of_z}
+use Rattle.std.specs.Prelude.{Result}
+use Rattle.std.specs.Result.{IsErrAnd}
 use Rattle.reading.specs.declared.Place.{Place}
 use Rattle.reading.specs.Readers.{Ask, done, ◌>>=◌, many}
-use Rattle.reading.specs.Places.{At, got_at, refused_at, short_at, run_at}
-use Rattle.reading.proofs.ByteRuns.{In, bind_short, require_holds, require_fails}
+use Rattle.reading.specs.Places.{got_at, refused_at, run_at}
+use Rattle.reading.proofs.ByteRuns.{In, require_holds, require_fails}
 use Rattle.reading.proofs.Postconditions.{Holds, value, Every, Sized, holds_bind, holds_bits, holds_many}
 use Rattle.error.specs.declared.Refusal.{Refusal}
+use Rattle.error.specs.Numbers.{refused_by}
 use Rattle.number.specs.Private.{Small}
 use Rattle.rfc9639.specs.declared.SubframeHeader.{SubframeHeader}
 use Rattle.rfc9639.specs.declared.SubframeType.TheVariants.{Constant}
@@ -26,13 +29,9 @@ use Rattle.rfc9639.specs.Residual.{residual}
 use Rattle.rfc9639.specs.Prediction.{predict}
 use Rattle.rfc9639.specs.Subframe.{order_of, samples_by_type, subframe, subframe_after_header}
 use Rattle.rfc9639.proofs.Widths.{Fits, fits-mono, signed-fits, of_sfits, shift_up-exact}
-use Rattle.subframe.specs.declared.Decoded.{Decoded}
-use Rattle.subframe.specs.declared.Decoded.TheVariants.{Done, Refused}
-use Rattle.subframe.specs.declared.answers.SampleRead.{SampleRead}
-use Rattle.subframe.specs.declared.answers.SampleRead.TheVariants.{Value, Short}
-use Rattle.subframe.specs.Answers.{samples_at, subframe_at, cleared, Left}
-use Rattle.subframe.specs.Private.{sample_read_at, Predictable, predicted_in_place, predicted_block}
-use Rattle.subframe.proofs.SliceParts.{answer_is, done_is, refused_is, passed_on, bind_done, then_done, rest_put, first_taken, first_dropped}
+use Rattle.subframe.specs.Answers.{samples_at, subframe_at}
+use Rattle.subframe.specs.Private.{Predictable, predicted_in_place, predicted_block}
+use Rattle.subframe.proofs.SliceParts.{passed_on, bind_done, then_done, rest_put, first_taken, first_dropped}
 use Rattle.subframe.proofs.HeaderBounds.{AnyRefusal, got_holds}
 
 -- ---- a slice changed in place, each number by f
@@ -119,14 +118,15 @@ read-row precision order h s at {cs} got =
 
 -- ---- one sample for all
 
-module _ (w n : ℕ) (s : List ℕ) (at : Place) {r : SampleRead} (says : sample_read_at r ≡ run_at (signed_bits w) s at) where
-  pub constant-short : r ≡ Short → short_at ≡ run_at (samples_by_type Constant w n) s at
+module _ (w n : ℕ) (s : List ℕ) (at : Place) where
+  pub constant-refused : (e : Refusal) (r : Result Place Refusal) → IsErrAnd r (λ y. y ≡ e) → refused_by e ≡ run_at (signed_bits w) s at → (left : List ℤ)
+      → samples_at r left ≡ run_at (samples_by_type Constant w n) s at
   unfolding samples_by_type
-  constant-short e = sym (bind_short (signed_bits w) s at (λ x. done (replicate n x)) (answer_is sample_read_at says e))
+  constant-refused e r i h = passed_on (signed_bits w) s at (λ x. done (replicate n x)) e r i h
 
-  pub constant-done : {x : ℤ} {p : Place} {l : List ℤ} → r ≡ Value x p → l ≡ replicate n x → got_at l p ≡ run_at (samples_by_type Constant w n) s at
+  pub constant-done : {x : ℤ} {p : Place} {l : List ℤ} → got_at x p ≡ run_at (signed_bits w) s at → l ≡ replicate n x → got_at l p ≡ run_at (samples_by_type Constant w n) s at
   unfolding samples_by_type
-  constant-done {p = p} e f = ap (λ t. got_at t p) f ∙ sym (bind_done (signed_bits w) (replicate n) s at (answer_is sample_read_at says e))
+  constant-done {p = p} e f = ap (λ t. got_at t p) f ∙ sym (bind_done (signed_bits w) (replicate n) s at (sym e))
 
 -- ---- after a header
 
@@ -145,12 +145,13 @@ module _ (n width : ℕ) (h : SubframeHeader) (s : List ℕ) (at : Place) (here 
   unfolding subframe_after_header
   order-enough enough = sym (require_holds 9 (λ _. body >>= (λ xs. done (shifted xs))) here (le-leb _ _ enough))
 
-  module _ (enough : order_of h.kind ≤ n) {r : Decoded} (l : List ℤ) (says : samples_at r l ≡ run_at body s at) where
-    pub after-header_refused : {e : Refusal} → r ≡ Refused e → (left : List ℤ) → samples_at r left ≡ run_at (subframe_after_header n width h) s at
-    after-header_refused e left = passed_on body s at (λ xs. done (shifted xs)) l says e left ∙ order-enough enough
+  module _ (enough : order_of h.kind ≤ n) where
+    pub after-header_refused : (e : Refusal) (r : Result Place Refusal) → IsErrAnd r (λ y. y ≡ e) → refused_by e ≡ run_at body s at → (left : List ℤ)
+        → samples_at r left ≡ run_at (subframe_after_header n width h) s at
+    after-header_refused e r i f left = passed_on body s at (λ xs. done (shifted xs)) e r i f left ∙ order-enough enough
 
-    pub after-header-done : {p : Place} {left : List ℤ} → r ≡ Done p → left ≡ shifted l → got_at left p ≡ run_at (subframe_after_header n width h) s at
-    after-header-done e f = then_done body shifted s at l says e f ∙ order-enough enough
+    pub after-header-done : {p : Place} {l left : List ℤ} → got_at l p ≡ run_at body s at → left ≡ shifted l → got_at left p ≡ run_at (subframe_after_header n width h) s at
+    after-header-done e f = then_done body shifted s at e f ∙ order-enough enough
 
 -- ---- the whole, with zeros on a refusal
 
@@ -162,13 +163,3 @@ module _ (width n : ℕ) (s : List ℕ) (at : Place) where
   pub not_wide : width ≤ 32 → run_at (subframe n width) s at ≡ subframe_at width n s at
   unfolding subframe_at
   not_wide h = rw (le-leb width 32 h)
-
-module _ {x : At (List ℤ)} (n : ℕ) {r : Decoded} (l : List ℤ) (says : samples_at r l ≡ x) where
-  pub left-done : {p : Place} → r ≡ Done p → Left x n (Done p) l
-  left-done e = record { answer = sym (done_is l says e); stopped = tt }
-
-  pub left-refused : {e : Refusal} {left : List ℤ} → r ≡ Refused e → left ≡ replicate n (pos 0) → Left x n r left
-  left-refused {e} {left} f z = record {
-    answer = ap (λ d. samples_at d left) f ∙ sym (refused_is l says f);
-    stopped = subst (λ d. cleared d n left) (sym f) z;
-  }

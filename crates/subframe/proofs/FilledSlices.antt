@@ -11,11 +11,17 @@ use lib.Seq.{take-suc-set, take_all}
 use mir.Syntax.{w32}
 use mir.Val.{SFits, to_z, of_z}
 use mir.Facts.{to_z-of_z}
+use Rattle.std.specs.Prelude.{Result}
+use Rattle.std.specs.Result.{IsErrAnd}
 use Rattle.reading.specs.declared.Place.{Place}
 use Rattle.reading.specs.Readers.{Ask, many}
-use Rattle.reading.specs.Places.{At, got_at, short_at, run_at}
-use Rattle.reading.proofs.ByteRuns.{In, stays_in, prepended, prepended_nil, many-end, many-step, many-short}
-use Rattle.subframe.proofs.SliceParts.{answer_is}
+use Rattle.reading.specs.Places.{got_at, run_at}
+use Rattle.reading.proofs.ByteRuns.{In, stays_in, prepended, prepended_nil, many-end, many-step}
+use Rattle.error.specs.declared.Refusal.{Refusal}
+use Rattle.error.specs.Numbers.{refused_by}
+use Rattle.error.proofs.Refusals.{bind_refusal}
+use Rattle.subframe.specs.Answers.{samples_at}
+use Rattle.subframe.proofs.SliceParts.{samples_stop, prepended-refusal}
 
 -- the slice held l₀, its first i are filled, and it holds l now
 pub record Filling (p : Ask ℤ) (s : List ℕ) (at₀ : Place) (l₀ l : List ℤ) (i : ℕ) (at : Place) : Type 0 where
@@ -47,14 +53,15 @@ module _ {p : Ask ℤ} {s : List ℕ} {at₀ : Place} {l₀ l : List ℤ} {i : �
         ∙ ap (λ t. prepended t (run_at (many (length l₀ - (i + 1)) p) s at')) (sym (take-suc-set l i x h) ∙ ap (λ n. take n (set l i x)) (sym (add-one i)));
   }
 
-  -- a turn and the way out, by what the reader's function answered, r', and what that means; the code stores a signed
-  -- value by its bits
-  module _ {A : Type 0} (means : A → At ℤ) {r r' : A} (says : means r ≡ run_at p s at) (e : r ≡ r') where
-    pub step : {z : ℤ} {q : Place} → means r' ≡ got_at z q → SFits w32 z → i < length l → Filling p s at₀ l₀ (set l i (to_z w32 (of_z w32 z))) (i + 1) q
-    step m f h = rw (to_z-of_z f) (filled h (answer_is means says e ∙ m))
+  -- a turn and the way out, by what the reader's function answered; the code stores a signed value by its bits
+  pub step : {z : ℤ} {q : Place} → got_at z q ≡ run_at p s at → SFits w32 z → i < length l → Filling p s at₀ l₀ (set l i (to_z w32 (of_z w32 z))) (i + 1) q
+  step e f h = rw (to_z-of_z f) (filled h (sym e))
 
-    pub cut : means r' ≡ short_at → i < length l → short_at ≡ run_at (many (length l₀) p) s at₀
-    cut m h = sym (next h ∙ many-short p s (take i l) at (length l₀ - (i + 1)) (answer_is means says e ∙ m))
+  pub stops : (e : Refusal) (r : Result Place Refusal) → IsErrAnd r (λ y. y ≡ e) → refused_by e ≡ run_at p s at → i < length l → (left : List ℤ)
+      → samples_at r left ≡ run_at (many (length l₀) p) s at₀
+  unfolding many
+  stops e r d f h =
+      samples_stop e r d (sym (next h ∙ ap (prepended (take i l)) (bind_refusal p s at _ e (sym f)) ∙ prepended-refusal (take i l) e))
 
   pub end : length l ≤ i → got_at l at ≡ run_at (many (length l₀) p) s at₀
   end h =

@@ -9,7 +9,7 @@ use lib.Dec.{leb, ltb, eqb}
 use Rattle.reading.specs.declared.Place.{Place}
 use Rattle.reading.specs.Readers.{Ask}
 use Rattle.reading.specs.Places.{got_at, run_at}
-use Rattle.reading.proofs.Postconditions.{Holds, value, refusal, Meets, holds_at, holds_bind, holds_bits, holds_zeros, holds_require, holds_if}
+use Rattle.reading.proofs.Postconditions.{Holds, value, refusal, Meets, holds_at, holds_bind, holds_bits, holds_refused, holds_zeros, holds_require, holds_if}
 use Rattle.rfc9639.specs.declared.SubframeType.TheVariants.{Fixed, Lpc}
 use Rattle.rfc9639.specs.declared.SubframeHeader.{SubframeHeader}
 use Rattle.rfc9639.specs.Subframe.{subframe_type, wasted_bits, checked_wasted_bits, kind_and_wasted, subframe_header, quantization}
@@ -38,14 +38,15 @@ AnyRefusal n = Unit {0}
 pub got_holds : {A : Type 0} {P : A → Type 0} {p : Ask A} → Holds AnyRefusal P p → (s : List ℕ) (at : Place) {a : A} {q : Place} → run_at p s at ≡ got_at a q → P a
 got_holds {P = P} h s at e = subst (Meets AnyRefusal P) e (holds_at AnyRefusal P s at h)
 
-holds_type : (code : ℕ) → code < 2 ^ 6 → Holds AnyRefusal Orderly (subframe_type code)
+-- a type is refused for a reserved code alone
+pub holds_type : (code : ℕ) → code < 2 ^ 6 → Holds (λ n. n ≡ 4) Orderly (subframe_type code)
 unfolding subframe_type
 holds_type code l =
     holds_if (eqb code 0) (λ _. value tt)
     (λ _. holds_if (eqb code 1) (λ _. value tt)
-    (λ _. holds_if (ltb code 8) (λ _. refusal tt)
+    (λ _. holds_if (ltb code 8) (λ _. refusal refl)
     (λ _. holds_if (leb code 12) (λ e. value {a = Fixed (code - 8)} (let h = leb-true code 12 e in omega arith))
-    (λ _. holds_if (ltb code 32) (λ _. refusal tt) (λ _. value {a = Lpc (code - 31)} (omega arith))))))
+    (λ _. holds_if (ltb code 32) (λ _. refusal refl) (λ _. value {a = Lpc (code - 31)} (omega arith))))))
 
 holds_wasted : Holds AnyRefusal (λ k. Unit {0}) wasted_bits
 unfolding wasted_bits
@@ -61,7 +62,7 @@ holds_header width =
     holds_bind _ (holds_bits 1)
     (λ v _. holds_bind _ (holds_require _ 4 tt)
     (λ _ _. holds_bind _ (holds_bits 6)
-    (λ code l. holds_bind _ (holds_type code l)
+    (λ code l. holds_bind _ (holds_refused (λ _ _. tt) (holds_type code l))
     (λ kind o. holds_bind _ (holds_checked width) (λ k j. value (record { orderly = o; few = j.0; narrow = j.1 }))))))
 
 pub header-sound : (width : ℕ) (s : List ℕ) (at : Place) {h : SubframeHeader} {p : Place} → run_at (subframe_header width) s at ≡ got_at h p → HeaderSound width h

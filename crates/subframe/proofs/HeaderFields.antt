@@ -1,7 +1,7 @@
 -- A subframe's header, and a precision and shift, question by question as the code reads them. Assumes nothing.
-use Prim.Native.Nat.{ℕ, ◌+◌, ◌≤◌, ◌<◌}
+use Prim.Native.Nat.{ℕ, ◌+◌, ◌^◌, ◌≤◌, ◌<◌}
 use native.Mathlib.Omega.{arith}
-use mathlib.Core.Path.{◌≡◌, refl, ap, sym, ◌∙◌}
+use mathlib.Core.Path.{◌≡◌, refl, ap, sym, ◌∙◌, subst}
 use mathlib.Core.Bool.{Bool, true, false, ◌&&◌}
 use mathlib.Core.List.{List}
 use borrow.Author.Tests.{eq-eqb, ne_eqb, lt-ltb, le-ltb, le-leb, lt-leb, leb-true, leb-false}
@@ -9,18 +9,20 @@ use lib.Dec.{leb, ltb, eqb}
 use Rattle.reading.specs.declared.Place.{Place}
 use Rattle.std.specs.Prelude.{if◌then◌else◌}
 use Rattle.reading.specs.Readers.{Ask, done, stop, ◌>>=◌, ◌>>◌, bits, zeros, require}
-use Rattle.reading.specs.Places.{got_at, refused_at, short_at, run_at}
-use Rattle.reading.proofs.ByteRuns.{stays_in, run_at-done, run_at-stop, bind_got_lem, bind_short, require_holds, require_fails}
+use Rattle.reading.specs.Places.{got_at, refused_at, run_at}
+use Rattle.reading.proofs.ByteRuns.{stays_in, run_at-done, run_at-stop, bind_got_lem, require_holds, require_fails, bits_below}
+use Rattle.reading.proofs.Postconditions.{Holds, refusal}
 use Rattle.input.specs.Answers.{count}
 use Rattle.input.proofs.Callers.{count_at_most, at_most-count, count-few}
 use Rattle.error.specs.declared.Refusal.{Refusal}
 use Rattle.error.proofs.Refusals.{bind_refusal}
-use Rattle.error.specs.Numbers.{refused_by}
+use Rattle.error.specs.Numbers.{number_of, refused_by}
 use Rattle.rfc9639.specs.declared.SubframeType.{SubframeType}
 use Rattle.rfc9639.specs.declared.SubframeHeader.{SubframeHeader}
 use Rattle.rfc9639.specs.Subframe.{subframe_type, wasted_bits, subframe_header, checked_wasted_bits, kind_and_wasted, quantization}
-use Rattle.subframe.specs.Private.{Quantization}
+use Rattle.subframe.specs.Private.{Quantization, Orderly}
 use Rattle.subframe.proofs.SliceParts.{bind_done}
+use Rattle.subframe.proofs.HeaderBounds.{holds_type}
 
 -- ---- the wasted bits
 
@@ -60,13 +62,13 @@ module _ (width : ℕ) (s : List ℕ) (at : Place) where
   unfolding check_wasted
   checked-refuses {k} {q} e f = checked_then e ∙ require_fails 9 (λ _. done k) (stays_in wasted_bits s at e) f
 
-  checked-short : run_at wasted_bits s at ≡ short_at → run_at (checked_wasted_bits width) s at ≡ short_at
+  checked-refusal : (x : Refusal) → run_at wasted_bits s at ≡ refused_by x → run_at (checked_wasted_bits width) s at ≡ refused_by x
   unfolding checked_wasted_bits check_wasted
-  checked-short e = bind_short wasted_bits s at (check_wasted width) e
+  checked-refusal x e = bind_refusal wasted_bits s at (check_wasted width) x e
 
-  pub flag-short : run_at (bits 1) s at ≡ short_at → run_at (checked_wasted_bits width) s at ≡ short_at
+  pub flag_refused : (x : Refusal) → refused_by x ≡ run_at (bits 1) s at → refused_by x ≡ run_at (checked_wasted_bits width) s at
   unfolding wasted_bits
-  flag-short e = checked-short (bind_short (bits 1) s at _ e)
+  flag_refused x e = sym (checked-refusal x (bind_refusal (bits 1) s at _ x (sym e)))
 
   module _ {v : ℕ} {p : Place} (e : run_at (bits 1) s at ≡ got_at v p) where
     flag_clear : v ≡ 0 → run_at wasted_bits s at ≡ got_at 0 p
@@ -85,9 +87,9 @@ module _ (width : ℕ) (s : List ℕ) (at : Place) where
     no_width_left f g = checked-refuses (flag_clear f) (wasted_test-wide 0 width (omega arith))
 
     module _ (on : v ≡ 0 → ⊥) where
-      pub unary-run-short : run_at zeros s p ≡ short_at → run_at (checked_wasted_bits width) s at ≡ short_at
+      pub unary-run-refused : (x : Refusal) → refused_by x ≡ run_at zeros s p → refused_by x ≡ run_at (checked_wasted_bits width) s at
       unfolding after_set_flag
-      unary-run-short g = checked-short (flag-set on ∙ bind_short zeros s p _ g)
+      unary-run-refused x g = sym (checked-refusal x (flag-set on ∙ bind_refusal zeros s p _ x (sym g)))
 
       -- the code's count of the zeros is exact up to 30
       module _ {z c : ℕ} {q : Place} (g : run_at zeros s p ≡ got_at z q) (o : c ≡ count z) where
@@ -113,6 +115,13 @@ module _ (width : ℕ) (s : List ℕ) (at : Place) where
 
 -- ---- the type, then the wasted bits
 
+-- a type is refused for a reserved code alone
+stopped : {A : Type 0} {R : ℕ → Type 0} {P : A → Type 0} {n : ℕ} → Holds R P (stop n) → R n
+stopped (refusal h) = h
+
+reserved-type : (code n : ℕ) → code < 2 ^ 6 → stop n ≡ subframe_type code → n ≡ 4
+reserved-type code n h e = stopped {P = Orderly} (subst (Holds (λ m. m ≡ 4) Orderly) (sym e) (holds_type code h))
+
 header_of : SubframeType → ℕ → SubframeHeader
 header_of kind wasted = record { kind = kind; wasted = wasted }
 
@@ -127,18 +136,16 @@ module _ (width : ℕ) where
   after_zero_bit v = require (eqb v 0) 4 >> kind_and_wasted width
 
   module _ (s : List ℕ) (at : Place) where
-    pub code-short : run_at (bits 6) s at ≡ short_at → run_at (kind_and_wasted width) s at ≡ short_at
-    unfolding kind_and_wasted
-    code-short e = bind_short (bits 6) s at _ e
-
     module _ {code : ℕ} {p : Place} (e : run_at (bits 6) s at ≡ got_at code p) where
       kind_then : {x : Ask SubframeType} → x ≡ subframe_type code → run_at (kind_and_wasted width) s at ≡ run_at (x >>= after_kind) s p
       unfolding kind_and_wasted after_code after_kind header_of
       kind_then f = bind_got_lem (bits 6) s at after_code e ∙ ap (λ t. run_at (t >>= after_kind) s p) (sym f)
 
-      pub type_reserved : stop 4 ≡ subframe_type code → run_at (kind_and_wasted width) s at ≡ refused_at 4
+      pub type_refused : (x : Refusal) → stop (number_of x) ≡ subframe_type code → refused_by x ≡ run_at (kind_and_wasted width) s at
       unfolding ◌>>=◌
-      type_reserved f = kind_then f ∙ run_at-stop 4 (stays_in (bits 6) s at e)
+      type_refused x f =
+          let reserved : number_of x ≡ 4 = reserved-type code (number_of x) (bits_below 6 s at e) f in
+          rw reserved (sym (kind_then (ap stop (sym reserved) ∙ f) ∙ run_at-stop 4 (stays_in (bits 6) s at e)))
 
       module _ {kind : SubframeType} (f : done kind ≡ subframe_type code) where
         known_kind : run_at (kind_and_wasted width) s at ≡ run_at (checked_wasted_bits width >>= (λ k. done (header_of kind k))) s p
@@ -153,10 +160,6 @@ module _ (width : ℕ) where
         kind_stops x g = known_kind ∙ bind_refusal (checked_wasted_bits width) s p _ x g
 
     -- ---- the zero bit before them
-
-    pub zero_bit-short : run_at (bits 1) s at ≡ short_at → run_at (subframe_header width) s at ≡ short_at
-    unfolding subframe_header
-    zero_bit-short e = bind_short (bits 1) s at _ e
 
     module _ {v : ℕ} {p : Place} (e : run_at (bits 1) s at ≡ got_at v p) where
       after_zero_bit_lem : run_at (subframe_header width) s at ≡ run_at (after_zero_bit v) s p
@@ -177,10 +180,6 @@ after_shift : ℕ → ℕ → Ask Quantization
 after_shift precision shift = require (ltb shift 16) 8 >> done (precision + 1, shift)
 
 module _ (s : List ℕ) (at : Place) where
-  pub precision_short : run_at (bits 4) s at ≡ short_at → run_at quantization s at ≡ short_at
-  unfolding quantization
-  precision_short e = bind_short (bits 4) s at _ e
-
   module _ {precision : ℕ} {p : Place} (e : run_at (bits 4) s at ≡ got_at precision p) where
     pub precision_reserved : precision ≡ 15 → run_at quantization s at ≡ refused_at 4
     unfolding quantization
@@ -191,8 +190,8 @@ module _ (s : List ℕ) (at : Place) where
       unfolding quantization after_shift
       after_precision = bind_got_lem (bits 4) s at _ e ∙ require_holds 4 (λ _. bits 5 >>= after_shift precision) (stays_in (bits 4) s at e) (lt-ltb precision 15 l)
 
-      pub shift_short : run_at (bits 5) s p ≡ short_at → run_at quantization s at ≡ short_at
-      shift_short g = after_precision ∙ bind_short (bits 5) s p (after_shift precision) g
+      pub shift_refused : (x : Refusal) → refused_by x ≡ run_at (bits 5) s p → refused_by x ≡ run_at quantization s at
+      shift_refused x g = sym (after_precision ∙ bind_refusal (bits 5) s p (after_shift precision) x (sym g))
 
       module _ {shift : ℕ} {q : Place} (g : run_at (bits 5) s p ≡ got_at shift q) where
         after_shift_lem : run_at quantization s at ≡ run_at (after_shift precision shift) s q

@@ -11,24 +11,21 @@ use lib.IntN.{ℤ}
 use lib.ListN.{length, take, replicate}
 use lib.Pow.{pow_mono, pow-add}
 use lib.Seq.{take_all}
+use Rattle.std.specs.Prelude.{Result}
+use Rattle.std.specs.Result.{IsErrAnd}
 use Rattle.reading.specs.declared.Place.{Place}
 use Rattle.reading.specs.Readers.{Ask, ◌>>=◌, bits, many, each}
-use Rattle.reading.specs.Places.{At, got_at, short_at, run_at}
-use Rattle.reading.proofs.ByteRuns.{In, stays_in, bind_got_lem, bind_short, bits_below, prepended, prepended_nil, each_step, each-end}
-use Rattle.input.specs.declared.Bits.{Bits}
-use Rattle.input.specs.declared.Bits.TheVariants.{Value, Short}
-use Rattle.input.specs.Answers as Input
+use Rattle.reading.specs.Places.{At, got_at, run_at}
+use Rattle.reading.proofs.ByteRuns.{In, stays_in, bind_got_lem, bits_below, prepended, prepended_nil, each_step, each-end}
 use Rattle.input.specs.Answers.{low64}
-use Rattle.input.proofs.Callers.{read-got, read_short}
+use Rattle.input.proofs.Callers.{read_exact}
 use Rattle.error.specs.declared.Refusal.{Refusal}
 use Rattle.error.specs.Numbers.{refused_by}
 use Rattle.rfc9639.specs.Integers.{signed_bits}
 use Rattle.rfc9639.specs.Residual.{rice, escaped, coded_residuals, partition}
-use Rattle.subframe.specs.declared.Decoded.{Decoded}
-use Rattle.subframe.specs.declared.Decoded.TheVariants.{Done, Refused}
 use Rattle.subframe.specs.Answers.{samples_at}
 use Rattle.error.proofs.Refusals.{bind_refusal}
-use Rattle.subframe.proofs.SliceParts.{done_is, refused_is, prepended-refusal, prepended-samples_at, part-size, part-taken}
+use Rattle.subframe.proofs.SliceParts.{samples_stop, passed_on, prepended-refusal, prepended-samples_at, part-size, part-taken}
 
 -- ---- a partition
 
@@ -40,28 +37,33 @@ parameter_count method h =
     ap (λ x. x % 2 ^ 64) e ∙ mod-eq_of_lt (lt_of_le_of_lt few (lit< tt))
 
 -- a field of at most 5 bits, and the residuals that its number asks for
-module _ (width : ℕ) (s : List ℕ) (at : Place) (h : width ≤ 5) {r : Bits} (says : Input.bits_at r ≡ low64 (run_at (bits width) s at)) where
-  pub field_below : {v : ℕ} {p : Place} → r ≡ Value v p → v < 2 ^ 5
-  field_below e = lt_of_lt_of_le (bits_below width s at (read-got width s at (omega arith) says e)) (pow_mono h)
+module _ (width : ℕ) (s : List ℕ) (at : Place) (h : width ≤ 5) where
+  field_got : {v : ℕ} {p : Place} → got_at v p ≡ low64 (run_at (bits width) s at) → run_at (bits width) s at ≡ got_at v p
+  field_got e = sym (read_exact width s at (omega arith) e)
+
+  pub field_below : {v : ℕ} {p : Place} → got_at v p ≡ low64 (run_at (bits width) s at) → v < 2 ^ 5
+  field_below e = lt_of_lt_of_le (bits_below width s at (field_got e)) (pow_mono h)
 
   module _ (residuals : ℕ → Ask (List ℤ)) where
-    field-short : r ≡ Short → short_at ≡ run_at (bits width >>= residuals) s at
-    field-short e = sym (bind_short (bits width) s at residuals (read_short width s at (omega arith) says e))
+    field_refused : (e : Refusal) (r : Result Place Refusal) → IsErrAnd r (λ y. y ≡ e) → refused_by e ≡ low64 (run_at (bits width) s at) → (left : List ℤ)
+        → samples_at r left ≡ run_at (bits width >>= residuals) s at
+    field_refused e r i h' = passed_on (bits width) s at residuals e r i (read_exact width s at (omega arith) h')
 
-    field_then : {v : ℕ} {p : Place} → r ≡ Value v p → {x : At (List ℤ)} → x ≡ run_at (residuals v) s p
+    field_then : {v : ℕ} {p : Place} → got_at v p ≡ low64 (run_at (bits width) s at) → {x : At (List ℤ)} → x ≡ run_at (residuals v) s p
         → x ≡ run_at (bits width >>= residuals) s at
-    field_then e g = g ∙ sym (bind_got_lem (bits width) s at residuals (read-got width s at (omega arith) says e))
+    field_then e g = g ∙ sym (bind_got_lem (bits width) s at residuals (field_got e))
 
 -- the parameter, and both of its meanings
-module _ (method n : ℕ) (s : List ℕ) (at : Place) (h : method < 2) {r : Bits} (says : Input.bits_at r ≡ low64 (run_at (bits (4 + method)) s at)) where
-  pub parameter_short : r ≡ Short → short_at ≡ run_at (partition method n) s at
+module _ (method n : ℕ) (s : List ℕ) (at : Place) (h : method < 2) where
+  pub parameter_refused : (e : Refusal) (r : Result Place Refusal) → IsErrAnd r (λ y. y ≡ e) → refused_by e ≡ low64 (run_at (bits (4 + method)) s at) → (left : List ℤ)
+      → samples_at r left ≡ run_at (partition method n) s at
   unfolding partition
-  parameter_short = field-short (4 + method) s at (omega arith) says (λ k. coded_residuals method k n)
+  parameter_refused = field_refused (4 + method) s at (omega arith) (λ k. coded_residuals method k n)
 
-  module _ {k : ℕ} {p : Place} (e : r ≡ Value k p) {x : At (List ℤ)} where
+  module _ {k : ℕ} {p : Place} (e : got_at k p ≡ low64 (run_at (bits (4 + method)) s at)) {x : At (List ℤ)} where
     parameter_then : x ≡ run_at (coded_residuals method k n) s p → x ≡ run_at (partition method n) s at
     unfolding partition
-    parameter_then = field_then (4 + method) s at (omega arith) says (λ k. coded_residuals method k n) e
+    parameter_then = field_then (4 + method) s at (omega arith) (λ k. coded_residuals method k n) e
 
     pub partition-escaped : k ≡ (16 * 2 ^ method) % 2 ^ 64 - 1 → x ≡ run_at (escaped n) s p → x ≡ run_at (partition method n) s at
     unfolding coded_residuals
@@ -77,15 +79,16 @@ module _ (method n : ℕ) (s : List ℕ) (at : Place) (h : method < 2) {r : Bits
         parameter_then (g ∙ sym (rw (ne_eqb k (2 ^ (4 + method) - 1) other) refl))
 
 -- the width of an escaped partition
-module _ (n : ℕ) (s : List ℕ) (at : Place) {r : Bits} (says : Input.bits_at r ≡ low64 (run_at (bits 5) s at)) where
-  pub width_short : r ≡ Short → short_at ≡ run_at (escaped n) s at
+module _ (n : ℕ) (s : List ℕ) (at : Place) where
+  pub width_refused : (e : Refusal) (r : Result Place Refusal) → IsErrAnd r (λ y. y ≡ e) → refused_by e ≡ low64 (run_at (bits 5) s at) → (left : List ℤ)
+      → samples_at r left ≡ run_at (escaped n) s at
   unfolding escaped
-  width_short = field-short 5 s at (omega arith) says (λ w. many n (signed_bits w))
+  width_refused = field_refused 5 s at (omega arith) (λ w. many n (signed_bits w))
 
-  pub escaped_by_width : {w : ℕ} {p : Place} → r ≡ Value w p → {x : At (List ℤ)} → x ≡ run_at (many n (signed_bits w)) s p
+  pub escaped_by_width : {w : ℕ} {p : Place} → got_at w p ≡ low64 (run_at (bits 5) s at) → {x : At (List ℤ)} → x ≡ run_at (many n (signed_bits w)) s p
       → x ≡ run_at (escaped n) s at
   unfolding escaped
-  escaped_by_width e = field_then 5 s at (omega arith) says (λ w. many n (signed_bits w)) e
+  escaped_by_width e = field_then 5 s at (omega arith) (λ w. many n (signed_bits w)) e
 
 -- ---- the first of some parts, then the others
 
@@ -94,7 +97,7 @@ module _ (f : ℕ → Ask (List ℤ)) (n : ℕ) (ns : List ℕ) (s : List ℕ) (
   unfolding each
   first-refused e h = bind_refusal (f n) s at _ e h
 
-  pub first_then : {v : List ℤ} {p : Place} → run_at (f n) s at ≡ got_at v p → (r : Decoded) (w : List ℤ) → samples_at r w ≡ run_at (each f ns) s p
+  pub first_then : {v : List ℤ} {p : Place} → run_at (f n) s at ≡ got_at v p → (r : Result Place Refusal) (w : List ℤ) → samples_at r w ≡ run_at (each f ns) s p
       → samples_at r (v ++ w) ≡ run_at (each f (n ∷ ns)) s at
   first_then {v} h r w g =
       sym (sym (prepended_nil (run_at (each f (n ∷ ns)) s at)) ∙ each_step f s [] at n ns h ∙ ap (prepended v) (sym g) ∙ prepended-samples_at v r w)
@@ -135,26 +138,27 @@ module _ {f : ℕ → Ask (List ℤ)} {size count : ℕ} {s : List ℕ} {at₀ :
         part-size start (start + size) l room (λ n. run_at (f n) s at)
         ∙ ap (λ n. run_at (f n) s at) (let e : start + size - start ≡ size = omega arith in e)
 
-    -- a turn and the way out, by what the decoder of the part answered and left
-    module _ {r : Decoded} (v : List ℤ) (says : samples_at r v ≡ run_at (f (length (mid_of start part l))) s at) where
-      pub step : {q : Place} → r ≡ Done q → length v ≡ length (mid_of start part l)
-          → Parted f size count s at₀ l₀ (put_mid start part l v) (start + size) (left - 1) q
-      step {q} e kept =
-          let got = sym ran ∙ done_is v says e in
-          let back = part-keeps-length v kept in
-          record {
-            place = stays_in (f size) s at got;
-            long = back;
-            sized = omega (arith, less, back, inv.sized, inv.long);
-            same =
-                next ∙ each_step f s (take start l) at size (replicate (left - 1) size) got
-                ∙ ap (λ t. prepended t (run_at (each f (replicate (left - 1) size)) s q)) (sym (part-taken start (start + size) l room v (omega arith) kept));
-          }
+    -- a turn and the way out, by what the decoder of the part answered and left in it
+    pub step : {v : List ℤ} {q : Place} → got_at v q ≡ run_at (f (length (mid_of start part l))) s at → length v ≡ length (mid_of start part l)
+        → Parted f size count s at₀ l₀ (put_mid start part l v) (start + size) (left - 1) q
+    step {v} {q} e kept =
+        let got = sym (e ∙ ran) in
+        let back = part-keeps-length v kept in
+        record {
+          place = stays_in (f size) s at got;
+          long = back;
+          sized = omega (arith, less, back, inv.sized, inv.long);
+          same =
+              next ∙ each_step f s (take start l) at size (replicate (left - 1) size) got
+              ∙ ap (λ t. prepended t (run_at (each f (replicate (left - 1) size)) s q)) (sym (part-taken start (start + size) l room v (omega arith) kept));
+        }
 
-      pub stops : {e : Refusal} → r ≡ Refused e → refused_by e ≡ run_at (each f (replicate count size)) s at₀
-      stops {e} d =
-          sym
-          (next ∙ ap (prepended (take start l)) (first-refused f size (replicate (left - 1) size) s at e (sym ran ∙ refused_is v says d)) ∙ prepended-refusal (take start l) e)
+    pub stops : (e : Refusal) (r : Result Place Refusal) → IsErrAnd r (λ y. y ≡ e) → refused_by e ≡ run_at (f (length (mid_of start part l))) s at → (now : List ℤ)
+        → samples_at r now ≡ run_at (each f (replicate count size)) s at₀
+    stops e r i g =
+        samples_stop e r i
+        (sym
+        (next ∙ ap (prepended (take start l)) (first-refused f size (replicate (left - 1) size) s at e (sym (g ∙ ran))) ∙ prepended-refusal (take start l) e))
 
   pub end : left ≤ 0 → got_at l at ≡ run_at (each f (replicate count size)) s at₀
   end h =

@@ -12,12 +12,13 @@ use lib.ListN.{replicate}
 use lib.Pow.{pow_pos, pow_mono}
 use Rattle.reading.specs.declared.Place.{Place}
 use Rattle.reading.specs.Readers.{Ask, ◌>>◌, bits, require, each}
-use Rattle.reading.specs.Places.{At, got_at, refused_at, short_at, run_at}
-use Rattle.reading.proofs.ByteRuns.{In, stays_in, bind_got_lem, bind_short, require_holds, require_fails, bits_below}
-use Rattle.input.specs.declared.Bits.{Bits}
-use Rattle.input.specs.declared.Bits.TheVariants.{Value, Short}
-use Rattle.input.specs.Answers.{bits_at, low64}
-use Rattle.input.proofs.Callers.{read-got, read_short}
+use Rattle.reading.specs.Places.{At, got_at, refused_at, run_at}
+use Rattle.reading.proofs.ByteRuns.{In, stays_in, bind_got_lem, require_holds, require_fails, bits_below}
+use Rattle.error.specs.declared.Refusal.{Refusal}
+use Rattle.error.specs.Numbers.{refused_by}
+use Rattle.error.proofs.Refusals.{bind_refusal}
+use Rattle.input.specs.Answers.{low64}
+use Rattle.input.proofs.Callers.{read_exact}
 use Rattle.rfc9639.specs.Residual.{partition, partition_sizes, residual}
 
 -- the number of partitions of an order, as the code computes it
@@ -54,14 +55,14 @@ after_order warm n method order = do
   require (leb warm (n / 2 ^ order)) 9
   each (partition method) (partition_sizes order (n / 2 ^ order) warm)
 
-module _ (warm n : ℕ) (s : List ℕ) (at : Place) {r : Bits} (first : bits_at r ≡ low64 (run_at (bits 2) s at)) where
-  pub method_short : r ≡ Short → short_at ≡ run_at (residual warm n) s at
+module _ (warm n : ℕ) (s : List ℕ) (at : Place) where
+  pub method_refused : (e : Refusal) → refused_by e ≡ low64 (run_at (bits 2) s at) → refused_by e ≡ run_at (residual warm n) s at
   unfolding residual
-  method_short e = sym (bind_short (bits 2) s at _ (read_short 2 s at (omega arith) first e))
+  method_refused e h = sym (bind_refusal (bits 2) s at _ e (sym (read_exact 2 s at (omega arith) h)))
 
-  module _ {method : ℕ} {p : Place} (e : r ≡ Value method p) where
+  module _ {method : ℕ} {p : Place} (first : got_at method p ≡ low64 (run_at (bits 2) s at)) where
     got_method : run_at (bits 2) s at ≡ got_at method p
-    got_method = read-got 2 s at (omega arith) first e
+    got_method = sym (read_exact 2 s at (omega arith) first)
 
     in_after_method : In s p
     in_after_method = stays_in (bits 2) s at got_method
@@ -70,16 +71,17 @@ module _ (warm n : ℕ) (s : List ℕ) (at : Place) {r : Bits} (first : bits_at 
     unfolding residual
     method_reserved h = sym (bind_got_lem (bits 2) s at _ got_method ∙ require_fails 4 _ in_after_method (le-ltb method 2 h))
 
-    module _ (h : method < 2) {q : Bits} (second : bits_at q ≡ low64 (run_at (bits 4) s p)) where
-      pub order-short : q ≡ Short → short_at ≡ run_at (residual warm n) s at
+    module _ (h : method < 2) where
+      pub order_refused : (e : Refusal) → refused_by e ≡ low64 (run_at (bits 4) s p) → refused_by e ≡ run_at (residual warm n) s at
       unfolding residual
-      order-short f =
+      order_refused e f =
           sym
-          (bind_got_lem (bits 2) s at _ got_method ∙ require_holds 4 _ in_after_method (lt-ltb method 2 h) ∙ bind_short (bits 4) s p _ (read_short 4 s p (omega arith) second f))
+          (bind_got_lem (bits 2) s at _ got_method ∙ require_holds 4 _ in_after_method (lt-ltb method 2 h)
+          ∙ bind_refusal (bits 4) s p _ e (sym (read_exact 4 s p (omega arith) f)))
 
-      module _ {order : ℕ} {next : Place} (f : q ≡ Value order next) where
+      module _ {order : ℕ} {next : Place} (second : got_at order next ≡ low64 (run_at (bits 4) s p)) where
         got-order : run_at (bits 4) s p ≡ got_at order next
-        got-order = read-got 4 s p (omega arith) second f
+        got-order = sym (read_exact 4 s p (omega arith) second)
 
         in_after_order : In s next
         in_after_order = stays_in (bits 4) s p got-order

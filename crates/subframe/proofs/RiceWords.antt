@@ -12,19 +12,21 @@ use lib.Pow.{pow_pos}
 use mir.Syntax.{w32}
 use mir.Val.{SFits, to_z, of_z}
 use mir.Facts.{to_z-of_z}
+use Rattle.std.specs.Prelude.{Result}
+use Rattle.std.specs.Result.{IsErrAnd}
+use Rattle.std.proofs.lemmas.Result.{err_from_is_err_and}
 use Rattle.reading.specs.declared.Place.{Place}
-use Rattle.reading.specs.Places.{position, place_of, got_at, short_at, run_at}
+use Rattle.reading.specs.Places.{position, place_of, got_at, run_at}
 use Rattle.reading.proofs.Bits.{one_shifted}
 use Rattle.reading.proofs.ByteRuns.{In, position-place, stays_in}
 use Rattle.reading.proofs.Words.{WordAt, leading_most, leading_one, one_and_bits, word_as, word_after, word-shifted, zeros-got, bits-got}
 use Rattle.input.specs.Answers.{word_from}
 use Rattle.input.proofs.Callers.{word_at-byte}
 use Rattle.rfc9639.specs.Residual.{folded, unfolded, rice}
+use Rattle.error.specs.declared.Refusal.{Refusal}
+use Rattle.error.specs.Numbers.{refused_by}
 use Rattle.subframe.specs.declared.answers.BitOffset.{BitOffset}
-use Rattle.subframe.specs.declared.answers.SampleRead.{SampleRead}
-use Rattle.subframe.specs.declared.answers.SampleRead.TheVariants.{Value, Short}
-use Rattle.subframe.specs.Private.{sample_read_at, place_after}
-use Rattle.subframe.proofs.SliceParts.{answer_is}
+use Rattle.subframe.specs.Private.{place_after, rice_read_at, StartsInWord}
 use Rattle.subframe.proofs.SampleReaders.{rice-parts}
 
 -- the byte of a place in the input is in it too
@@ -33,15 +35,15 @@ byte-within o h = omega (arith, h.end)
 
 -- ---- by the answer at a place; the code passes a signed value by its bits
 
-module _ (k : ℕ) (s : List ℕ) (o : BitOffset) {at : Place} (here : at ≡ place_after o) {r : SampleRead} (says : sample_read_at r ≡ run_at (rice k) s at) where
-  pub any_got : {z : ℤ} {p : Place} → r ≡ Value z p → SFits w32 z
+module _ (k : ℕ) (s : List ℕ) (o : BitOffset) {at : Place} (here : at ≡ place_after o) where
+  pub any_got : {z : ℤ} {p : Place} → got_at z p ≡ run_at (rice k) s at → SFits w32 z
       → (got_at (to_z w32 (of_z w32 z)) (place_of (position p)) ≡ run_at (rice k) s (place_after o)) × (p.bit < 64)
   any_got {z} {p} e f =
-      let got = answer_is sample_read_at says e in let bit : p.bit < 8 = (stays_in (rice k) s at got).bit in
-      (ap₂ got_at (to_z-of_z f) (position-place p bit) ∙ sym got ∙ ap (run_at (rice k) s) here, omega arith)
+      let bit : p.bit < 8 = (stays_in (rice k) s at (sym e)).bit in (ap₂ got_at (to_z-of_z f) (position-place p bit) ∙ e ∙ ap (run_at (rice k) s) here, omega arith)
 
-  pub any_short : r ≡ Short → short_at ≡ run_at (rice k) s (place_after o)
-  any_short e = sym (answer_is sample_read_at says e) ∙ ap (run_at (rice k) s) here
+  pub any_refused : (e : Refusal) (r : Result (ℤ × BitOffset) Refusal) → IsErrAnd r (λ y. y ≡ e) → refused_by e ≡ run_at (rice k) s at
+      → (rice_read_at r ≡ run_at (rice k) s (place_after o)) × StartsInWord r
+  any_refused e r i h = let d = err_from_is_err_and r i in rw (d.1, d.2) (h ∙ ap (run_at (rice k) s) here, tt)
 
 -- ---- the remainder, of a word whose first one is bit `top`
 

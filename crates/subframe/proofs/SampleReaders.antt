@@ -12,12 +12,13 @@ use mir.Val.{SFits, to_z, of_z}
 use mir.Facts.{to_z-of_z}
 use Rattle.reading.specs.declared.Place.{Place}
 use Rattle.reading.specs.Readers.{Ask, done, ◌>>=◌, bits, zeros}
-use Rattle.reading.specs.Places.{got_at, short_at, run_at}
-use Rattle.reading.proofs.ByteRuns.{bind_got_lem, bind_short, bits_below}
-use Rattle.input.specs.declared.Bits.{Bits}
-use Rattle.input.specs.declared.Bits.TheVariants.{Value, Short}
-use Rattle.input.specs.Answers.{bits_at, low64, count, counted_zeros}
-use Rattle.input.proofs.Callers.{read-got, read_short, unary-got, unary-short, count_low, count-below}
+use Rattle.reading.specs.Places.{got_at, run_at}
+use Rattle.reading.proofs.ByteRuns.{bind_got_lem, bits_below}
+use Rattle.error.specs.declared.Refusal.{Refusal}
+use Rattle.error.specs.Numbers.{refused_by}
+use Rattle.error.proofs.Refusals.{bind_refusal}
+use Rattle.input.specs.Answers.{low64, count, counted_zeros}
+use Rattle.input.proofs.Callers.{read_exact, unary-got, unary-refused, count_low, count-below}
 use Rattle.signed.specs.Extend.{sign_extend}
 use Rattle.signed.proofs.SignExtension.{extend-signed}
 use Rattle.rfc9639.specs.Integers.{signed, wrapped, signed_bits}
@@ -32,17 +33,13 @@ pub extended-low32 : (w v : ℕ) → w ≤ 32 → v < 2 ^ w → wrapped 32 (sign
 extended-low32 w v h l =
     ap (wrapped 32) (extend-signed w v (omega arith) l) ∙ wrapped_same 32 (signed w v) (omega arith) (fits-mono h (signed-fits w v l))
 
-module _ (w : ℕ) (s : List ℕ) (at : Place) (h : w ≤ 32) {r : Bits} (says : bits_at r ≡ low64 (run_at (bits w) s at)) where
-  pub sample-short : r ≡ Short → short_at ≡ run_at (signed_bits w) s at
-  unfolding signed_bits
-  sample-short e = sym (bind_short (bits w) s at (λ v. done (signed w v)) (read_short w s at (omega arith) says e))
-
+module _ (w : ℕ) (s : List ℕ) (at : Place) (h : w ≤ 32) where
   -- the code passes a signed value by its bits
-  pub sample-got : {v : ℕ} {q : Place} {x z : ℤ} → r ≡ Value v q → x ≡ sign_extend w v → SFits w64 x → z ≡ wrapped 32 (to_z w64 (of_z w64 x)) → SFits w32 z
+  pub sample-got : {v : ℕ} {q : Place} {x z : ℤ} → got_at v q ≡ low64 (run_at (bits w) s at) → x ≡ sign_extend w v → SFits w64 x → z ≡ wrapped 32 (to_z w64 (of_z w64 x)) → SFits w32 z
       → got_at (to_z w32 (of_z w32 z)) q ≡ run_at (signed_bits w) s at
   unfolding signed_bits
   sample-got {v} {q} {x} {z} e f fx g fz =
-      let got = read-got w s at (omega arith) says e in
+      let got = sym (read_exact w s at (omega arith) e) in
       sym
       (bind_done (bits w) (signed w) s at got
       ∙ ap (λ y. got_at y q) (sym (to_z-of_z fz ∙ g ∙ ap (wrapped 32) (to_z-of_z fx ∙ f) ∙ extended-low32 w v h (bits_below w s at got))))
@@ -76,28 +73,33 @@ pub rice-parts : (k : ℕ) (s : List ℕ) (at : Place) {q r : ℕ} {p next : Pla
 unfolding rice remainder_then
 rice-parts k s at {q} {p = p} high low = bind_got_lem zeros s at (remainder_then k) high ∙ bind_done (bits k) (λ r. unfolded (folded k q r)) s p low
 
-module _ (k : ℕ) (s : List ℕ) (at : Place) (h : k ≤ 31) {u : Bits} (high : bits_at u ≡ counted_zeros (run_at zeros s at)) where
-  pub quotient_short : u ≡ Short → short_at ≡ run_at (rice k) s at
+module _ (k : ℕ) (s : List ℕ) (at : Place) (h : k ≤ 31) where
+  pub quotient_refused : (e : Refusal) → refused_by e ≡ counted_zeros (run_at zeros s at) → refused_by e ≡ run_at (rice k) s at
   unfolding rice remainder_then
-  quotient_short e = sym (bind_short zeros s at (remainder_then k) (unary-short s at high e))
+  quotient_refused e high = sym (bind_refusal zeros s at (remainder_then k) e (sym (unary-refused s at e high)))
 
-  module _ {q : ℕ} {p : Place} (e : u ≡ Value q p) {r : Bits} (says : bits_at r ≡ low64 (run_at (bits k) s p)) where
-    pub remainder_short : r ≡ Short → short_at ≡ run_at (rice k) s at
+  module _ {q : ℕ} {p : Place} (high : got_at q p ≡ counted_zeros (run_at zeros s at)) where
+    pub quotient_below : q < 2 ^ 33
+    quotient_below = let got = unary-got s at high in omega (arith, got.2, count-below got.0)
+
+    pub remainder_refused : (e : Refusal) → refused_by e ≡ low64 (run_at (bits k) s p) → refused_by e ≡ run_at (rice k) s at
     unfolding rice remainder_then
-    remainder_short f =
-        let got = unary-got s at high e in
-        sym (bind_got_lem zeros s at (remainder_then k) got.1 ∙ bind_short (bits k) s p (λ r. done (unfolded (folded k got.0 r))) (read_short k s p (omega arith) says f))
+    remainder_refused e low =
+        let got = unary-got s at high in
+        sym
+        (bind_got_lem zeros s at (remainder_then k) got.1
+        ∙ bind_refusal (bits k) s p (λ r. done (unfolded (folded k got.0 r))) e (sym (read_exact k s p (omega arith) low)))
 
-    module _ {v : ℕ} {next : Place} (f : r ≡ Value v next) where
-      pub quotient_below : q < 2 ^ 33
-      quotient_below = let got = unary-got s at high e in omega (arith, got.2, count-below got.0)
+    module _ {v : ℕ} {next : Place} (low : got_at v next ≡ low64 (run_at (bits k) s p)) where
+      remainder_got : run_at (bits k) s p ≡ got_at v next
+      remainder_got = sym (read_exact k s p (omega arith) low)
 
       pub remainder_below : v < 2 ^ k
-      remainder_below = bits_below k s p (read-got k s p (omega arith) says f)
+      remainder_below = bits_below k s p remainder_got
 
       pub rice-got : {n : ℕ} {z : ℤ} → n ≡ folded k q v → z ≡ unfolded n → SFits w32 z → got_at (to_z w32 (of_z w32 z)) next ≡ run_at (rice k) s at
       rice-got {n} {z} en ez fz =
-          let got = unary-got s at high e in
+          let got = unary-got s at high in
           sym
-          (rice-parts k s at got.1 (read-got k s p (omega arith) says f)
+          (rice-parts k s at got.1 remainder_got
           ∙ ap (λ y. got_at y next) (sym (to_z-of_z fz ∙ ez ∙ ap unfolded (en ∙ ap (λ x. folded k x v) got.2 ∙ folded-count k got.0 v))))

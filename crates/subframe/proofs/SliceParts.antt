@@ -9,34 +9,32 @@ use lib.Dec.{eqb}
 use lib.IntN.{ℤ}
 use lib.ListN.{length, take, drop, length-append}
 use lib.Seq.{take_at, drop_at, drop-length, length-take-le, length_front}
+use Rattle.std.specs.Prelude.{Result, Ok, Err}
+use Rattle.std.specs.Result.{IsErrAnd}
+use Rattle.std.proofs.lemmas.Result.{err_from_is_err_and}
 use Rattle.reading.specs.declared.Place.{Place}
 use Rattle.reading.specs.Readers.{Ask, done, ◌>>=◌}
 use Rattle.reading.specs.Places.{At, got_at, refused_at, short_at, run_at}
 use Rattle.reading.proofs.ByteRuns.{stays_in, run_at-done, bind_got_lem, prepended}
 use Rattle.error.specs.declared.Refusal.{Refusal}
+use Rattle.error.specs.Answers.{read_at}
 use Rattle.error.specs.Numbers.{number_of, refused_by}
 use Rattle.error.proofs.Refusals.{bind_refusal}
-use Rattle.subframe.specs.declared.Decoded.{Decoded}
-use Rattle.subframe.specs.declared.Decoded.TheVariants.{Done, Refused}
 use Rattle.subframe.specs.Answers.{samples_at}
 
 -- ---- a decoder's answer
 
--- what a function answered, by what a match found of it
-pub answer_is : {A B : Type 0} (f : A → B) {x : B} {r r' : A} → f r ≡ x → r ≡ r' → x ≡ f r'
-answer_is f says e = sym says ∙ ap f e
+-- The exit of a `?`: what it returns is known by `IsErrAnd`. A decoder's refusal is returned whatever the slice holds.
+pub read_stops : {A : Type 0} {x : At A} (e : Refusal) (r : Result (A × Place) Refusal) → IsErrAnd r (λ y. y ≡ e) → refused_by e ≡ x → read_at r ≡ x
+read_stops e r i h = let d = err_from_is_err_and r i in rw (d.1, d.2) h
 
-module _ {x : At (List ℤ)} {r : Decoded} (l : List ℤ) (says : samples_at r l ≡ x) where
-  pub done_is : {p : Place} → r ≡ Done p → x ≡ got_at l p
-  done_is e = answer_is (λ d. samples_at d l) says e
+pub samples_stop : {x : At (List ℤ)} (e : Refusal) (r : Result Place Refusal) → IsErrAnd r (λ y. y ≡ e) → refused_by e ≡ x → (left : List ℤ) → samples_at r left ≡ x
+samples_stop e r i h left = let d = err_from_is_err_and r i in rw (d.1, d.2) h
 
-  pub refused_is : {e : Refusal} → r ≡ Refused e → x ≡ refused_by e
-  refused_is e = answer_is (λ d. samples_at d l) says e
-
--- a refusal is returned, whatever the slice holds
-module _ (p : Ask (List ℤ)) (s : List ℕ) (at : Place) (k : List ℤ → Ask (List ℤ)) where
-  pub passed_on : {r : Decoded} {e : Refusal} (l : List ℤ) → samples_at r l ≡ run_at p s at → r ≡ Refused e → (left : List ℤ) → samples_at r left ≡ run_at (p >>= k) s at
-  passed_on {e = e} l says d left = ap (λ x. samples_at x left) d ∙ sym (bind_refusal p s at k e (refused_is l says d))
+-- what stops the first part stops the whole
+pub passed_on : {A : Type 0} (p : Ask A) (s : List ℕ) (at : Place) (k : A → Ask (List ℤ)) (e : Refusal) (r : Result Place Refusal) → IsErrAnd r (λ y. y ≡ e)
+    → refused_by e ≡ run_at p s at → (left : List ℤ) → samples_at r left ≡ run_at (p >>= k) s at
+passed_on p s at k e r i h = samples_stop e r i (sym (bind_refusal p s at k e (sym h)))
 
 -- a reader, then a function of what it got
 pub bind_done : {A B : Type 0} (p : Ask A) (g : A → B) (s : List ℕ) (at : Place) {a : A} {at' : Place} → run_at p s at ≡ got_at a at'
@@ -44,9 +42,9 @@ pub bind_done : {A B : Type 0} (p : Ask A) (g : A → B) (s : List ℕ) (at : Pl
 bind_done p g s at {a} e = bind_got_lem p s at (λ x. done (g x)) e ∙ run_at-done (g a) (stays_in p s at e)
 
 -- a decoder, then a function of the samples that it left
-pub then_done : (p : Ask (List ℤ)) (g : List ℤ → List ℤ) (s : List ℕ) (at : Place) {r : Decoded} (l : List ℤ) → samples_at r l ≡ run_at p s at
-    → {q : Place} {left : List ℤ} → r ≡ Done q → left ≡ g l → got_at left q ≡ run_at (p >>= (λ x. done (g x))) s at
-then_done p g s at l says {q} e f = ap (λ t. got_at t q) f ∙ sym (bind_done p g s at (done_is l says e))
+pub then_done : (p : Ask (List ℤ)) (g : List ℤ → List ℤ) (s : List ℕ) (at : Place) {l left : List ℤ} {q : Place} → got_at l q ≡ run_at p s at → left ≡ g l
+    → got_at left q ≡ run_at (p >>= (λ x. done (g x))) s at
+then_done p g s at {q = q} e f = ap (λ t. got_at t q) f ∙ sym (bind_done p g s at (sym e))
 
 -- what was read before, in front of what a decoder left
 pub prepended-refusal : {A : Type 0} (xs : List A) (e : Refusal) → prepended xs (refused_by e) ≡ refused_by e
@@ -57,10 +55,10 @@ prepended-refusal {A} xs e = go (eqb (number_of e) 2)
     go true = refl
     go false = refl
 
-pub prepended-samples_at : (xs : List ℤ) (r : Decoded) (l : List ℤ) → prepended xs (samples_at r l) ≡ samples_at r (xs ++ l)
+pub prepended-samples_at : (xs : List ℤ) (r : Result Place Refusal) (l : List ℤ) → prepended xs (samples_at r l) ≡ samples_at r (xs ++ l)
 unfolding prepended
-prepended-samples_at xs (Done p) l = refl
-prepended-samples_at xs (Refused e) l = prepended-refusal xs e
+prepended-samples_at xs (Ok p) l = refl
+prepended-samples_at xs (Err e) l = prepended-refusal xs e
 
 -- ---- the part from a to e, replaced by v
 
@@ -86,16 +84,20 @@ module _ {A : Type 0} (m : ℕ) (l : List A) (h : m ≤ length l) where
   rest_put w = ap (λ (t : List A). take m l ++ t) (ap (λ (t : List A). w ++ t) (Post-is m (length l) l h ∙ drop-length l) ∙ append-nil w)
 
 -- the first m are lent to a decoder that reads as many as it is lent
-module _ (f : ℕ → Ask (List ℤ)) (s : List ℕ) (at : Place) (m : ℕ) (l : List ℤ) (h : m ≤ length l) {r : Decoded} (v : List ℤ)
-    (says : samples_at r v ≡ run_at (f (length (take m l))) s at) where
-  pub front-got : {p : Place} → r ≡ Done p → run_at (f m) s at ≡ got_at v p
-  front-got e = sym (first-size m l h (λ n. run_at (f n) s at)) ∙ done_is v says e
+module _ (f : ℕ → Ask (List ℤ)) (s : List ℕ) (at : Place) (m : ℕ) (l : List ℤ) (h : m ≤ length l) where
+  front-size : {x : At (List ℤ)} → x ≡ run_at (f (length (take m l))) s at → x ≡ run_at (f m) s at
+  front-size e = e ∙ first-size m l h (λ n. run_at (f n) s at)
 
-  pub front-stops : (k : List ℤ → Ask (List ℤ)) {e : Refusal} → r ≡ Refused e → (left : List ℤ) → samples_at r left ≡ run_at (f m >>= k) s at
-  front-stops k d left = passed_on (f m) s at k v (says ∙ first-size m l h (λ n. run_at (f n) s at)) d left
+  pub front-stops : (k : List ℤ → Ask (List ℤ)) (e : Refusal) (r : Result Place Refusal) → IsErrAnd r (λ y. y ≡ e) → refused_by e ≡ run_at (f (length (take m l))) s at
+      → (left : List ℤ) → samples_at r left ≡ run_at (f m >>= k) s at
+  front-stops k e r i h' = passed_on (f m) s at k e r i (front-size h')
 
-  pub front_then : (k : List ℤ → Ask (List ℤ)) {p : Place} → r ≡ Done p → run_at (k v) s p ≡ run_at (f m >>= k) s at
-  front_then k e = sym (bind_got_lem (f m) s at k (front-got e))
+  module _ {v : List ℤ} {p : Place} (says : got_at v p ≡ run_at (f (length (take m l))) s at) where
+    pub front-got : run_at (f m) s at ≡ got_at v p
+    front-got = sym (front-size says)
+
+    pub front_then : (k : List ℤ → Ask (List ℤ)) → run_at (k v) s p ≡ run_at (f m >>= k) s at
+    front_then k = sym (bind_got_lem (f m) s at k front-got)
 
 -- the first m replaced by v, then the rest by w
 module _ {A : Type 0} (m : ℕ) (l : List A) (h : m ≤ length l) (v : List A) (kept : length v ≡ length (take m l)) where

@@ -1,39 +1,25 @@
 -- What the answers of the private functions mean in the definition, and what these functions ask of each other. Only
 -- contracts of private functions name it, so nobody has to believe it.
-use Rattle.std.specs.Prelude.{ℕ, zero, suc, ◌+◌, ◌-◌, ◌*◌, ◌^◌, ◌≤◌, ◌<◌, ◌≡◌, List, ◌++◌, ℤ, pos, length, take, drop, replicate}
+use Rattle.std.specs.Prelude.{ℕ, zero, suc, ◌+◌, ◌-◌, ◌*◌, ◌^◌, ◌≤◌, ◌<◌, ◌≡◌, List, ◌++◌, ℤ, pos, length, take, drop, replicate, Result, Ok, Err}
 use Rattle.reading.specs.declared.Place.{Place}
 use Rattle.reading.specs.Readers.{Ask, done, stop, ◌>>=◌}
-use Rattle.reading.specs.Places.{At, got_at, short_at, place_of}
-use Rattle.error.specs.Numbers.{refused_by}
+use Rattle.reading.specs.Places.{At, got_at, place_of}
+use Rattle.error.specs.declared.Refusal.{Refusal}
+use Rattle.error.specs.Numbers.{number_of, refused_by}
 use Rattle.number.specs.Private.{Small}
 use Rattle.rfc9639.specs.declared.SubframeType.{SubframeType}
 use Rattle.rfc9639.specs.declared.SubframeType.TheVariants.{Constant, Verbatim, Fixed, Lpc}
-use Rattle.rfc9639.specs.declared.SubframeHeader.{SubframeHeader}
 use Rattle.rfc9639.specs.Residual.{residual}
 use Rattle.rfc9639.specs.Prediction.{predict, fixed_coefficients}
 use Rattle.rfc9639.specs.Subframe.{lpc_after_shift}
-use Rattle.subframe.specs.declared.answers.Kind.{Kind}
-use Rattle.subframe.specs.declared.answers.SampleRead.{SampleRead}
-use Rattle.subframe.specs.declared.answers.SampleRead.TheVariants.{Value, Short}
 use Rattle.subframe.specs.declared.answers.BitOffset.{BitOffset}
-use Rattle.subframe.specs.declared.answers.RiceRead.{RiceRead}
-use Rattle.subframe.specs.declared.answers.WastedRead.{WastedRead}
-use Rattle.subframe.specs.declared.answers.SubframeHeaderRead.{SubframeHeaderRead}
-use Rattle.subframe.specs.declared.answers.QuantizerRead.{QuantizerRead}
 
 -- ---- the header
 
-abbrev pub kind_ask : Kind → Ask SubframeType
-kind_ask (Kind.Known k) = done k
-kind_ask Kind.Reserved = stop 4
-
-abbrev pub wasted_at : WastedRead → At ℕ
-wasted_at (WastedRead.Count n p) = got_at n p
-wasted_at (WastedRead.Refused e) = refused_by e
-
-abbrev pub subframe_header_at : SubframeHeaderRead → At SubframeHeader
-subframe_header_at (SubframeHeaderRead.Header h p) = got_at h p
-subframe_header_at (SubframeHeaderRead.Refused e) = refused_by e
+-- a code alone is known or refused
+abbrev pub kind_ask : Result SubframeType Refusal → Ask SubframeType
+kind_ask (Ok k) = done k
+kind_ask (Err e) = stop (number_of e)
 
 -- ---- what follows it
 
@@ -50,19 +36,9 @@ Orderly (Lpc k) = k ≤ 32
 abbrev pub Quantization : Type 0
 Quantization = ℕ × ℕ
 
-abbrev pub quantizer_at : QuantizerRead → At Quantization
-quantizer_at (QuantizerRead.Known precision shift p) = got_at (precision, shift) p
-quantizer_at (QuantizerRead.Refused e) = refused_by e
-
 -- padded with zeros to n
 abbrev pub with_zeros : ℕ → List ℤ → List ℤ
 with_zeros n xs = xs ++ replicate (n - length xs) (pos 0)
-
--- ---- one sample
-
-abbrev pub sample_read_at : SampleRead → At ℤ
-sample_read_at (Value x p) = got_at x p
-sample_read_at Short = short_at
 
 -- ---- one residual
 
@@ -70,14 +46,14 @@ sample_read_at Short = short_at
 abbrev pub place_after : BitOffset → Place
 place_after o = place_of (8 * o.byte + o.bits)
 
-abbrev pub rice_read_at : RiceRead → At ℤ
-rice_read_at (RiceRead.Value x o) = got_at x (place_after o)
-rice_read_at RiceRead.Short = short_at
+abbrev pub rice_read_at : Result (ℤ × BitOffset) Refusal → At ℤ
+rice_read_at (Ok r) = got_at r.0 (place_after r.1)
+rice_read_at (Err e) = refused_by e
 
 -- the next code starts fewer bits after the byte than a word has
-abbrev pub StartsInWord : RiceRead → Type 0
-StartsInWord (RiceRead.Value x o) = o.bits < 64
-StartsInWord RiceRead.Short = Unit {0}
+abbrev pub StartsInWord : Result (ℤ × BitOffset) Refusal → Type 0
+StartsInWord (Ok r) = r.1.bits < 64
+StartsInWord (Err e) = Unit {0}
 
 -- ---- prediction
 

@@ -1,5 +1,5 @@
-// One channel of a block (RFC 9639 section 9.2), after claxon's subframe.rs. `decode` answers on every argument. It
-// leaves the samples of the definition in the caller's slice, or zeros where it refuses.
+// One channel of a block (RFC 9639 section 9.2), after claxon's subframe.rs. `decode` answers on every argument, with
+// the place after the channel or why it is refused. It leaves the samples of the definition in the caller's slice, or zeros where it refuses.
 #![tactic(auto)]
 
 mod answers;
@@ -14,7 +14,6 @@ ghost use Rattle.rfc9639.specs.Integers.{shift_up};
 ghost use Rattle.subframe.specs.Answers.{samples_at, Left, subframe_at};
 ghost use Rattle.subframe.specs.Private.{Orderly, Predictable, predicted_block, lpc_block};
 
-use answers::{QuantizerRead, SampleRead, SubframeHeaderRead};
 use error::Refusal;
 use header::{order_of, read_quantizer, read_subframe_header};
 use predict::{fixed_coefficients, predict_lpc};
@@ -22,23 +21,13 @@ use reading::Place;
 use residual::{decode_residual, decode_verbatim, read_sample};
 use rfc9639::{SubframeHeader, SubframeType};
 
-// The place after what was decoded, or why it stopped.
-#[derive(Clone, Copy)]
-pub enum Decoded {
-    Done(Place),
-    Refused(Refusal),
-}
-
-fn decode_constant(s: &[u8], at: Place, width: u32, out: &mut [i32]) -> Decoded
+fn decode_constant(s: &[u8], at: Place, width: u32, out: &mut [i32]) -> Result<Place, Refusal>
     requires { width ≤ 32 }
     ensures { samples_at result out.new ≡ run_at (samples_by_type SubframeType.Constant width (length out.old)) s.now at }
 {
-    let read = read_sample(s, at, width);
-    let SampleRead::Value(x, p) = read else {
-        return Decoded::Refused(Refusal::CutShort);
-    };
+    let (x, p) = read_sample(s, at, width)?;
     block::fill(out, x);
-    Decoded::Done(p)
+    Ok(p)
 }
 
 // What follows the warm-up samples and the coefficients (RFC 9639 sections 9.2.5 and 9.2.6): the residual into the rest
@@ -49,29 +38,29 @@ fn decode_predicted(
     coefficients: &[i32],
     shift: u32,
     out: &mut [i32],
-) -> Decoded
+) -> Result<Place, Refusal>
     requires { Predictable 32 coefficients.now out.old }
     ensures { samples_at result out.new ≡ run_at (predicted_block coefficients.now shift out.old) s.now at }
 {
     let order = coefficients.len();
     let n = out.len();
-    let residual = decode_residual(s, at, order, n, &mut out[order..]);
-    let Decoded::Done(p) = residual else {
-        return residual;
-    };
+    let p = decode_residual(s, at, order, n, &mut out[order..])?;
     predict_lpc(coefficients, shift, out);
-    Decoded::Done(p)
+    Ok(p)
 }
 
 // RFC 9639 section 9.2.5: a fixed predictor is a linear one with known coefficients and no shift.
-fn decode_fixed(s: &[u8], at: Place, width: u32, order: usize, out: &mut [i32]) -> Decoded
+fn decode_fixed(
+    s: &[u8],
+    at: Place,
+    width: u32,
+    order: usize,
+    out: &mut [i32],
+) -> Result<Place, Refusal>
     requires { (width ≤ 32) × (order ≤ 4) × (order ≤ length out.old) }
     ensures { samples_at result out.new ≡ run_at (fixed order width (length out.old)) s.now at }
 {
-    let warm = decode_verbatim(s, at, width, &mut out[..order]);
-    let Decoded::Done(p) = warm else {
-        return warm;
-    };
+    let p = decode_verbatim(s, at, width, &mut out[..order])?;
     let coefficients = fixed_coefficients(order);
     decode_predicted(s, p, &coefficients[..order], 0, out)
 }
@@ -84,38 +73,39 @@ fn decode_lpc_after_shift(
     shift: u32,
     order: usize,
     out: &mut [i32],
-) -> Decoded
+) -> Result<Place, Refusal>
     requires { (precision ≤ 15) × (shift < 16) × (order ≤ 32) × (order ≤ length out.old) }
     ensures { samples_at result out.new ≡ run_at (lpc_block order precision shift out.old) s.now at }
 {
     let mut coefficients = [0i32; 32];
-    let read = decode_verbatim(s, at, precision, &mut coefficients[..order]);
-    let Decoded::Done(p) = read else {
-        return read;
-    };
+    let p = decode_verbatim(s, at, precision, &mut coefficients[..order])?;
     decode_predicted(s, p, &coefficients[..order], shift, out)
 }
 
 // RFC 9639 section 9.2.6: the warm-up samples, the precision and the shift, and the rest.
-fn decode_lpc(s: &[u8], at: Place, width: u32, order: usize, out: &mut [i32]) -> Decoded
+fn decode_lpc(
+    s: &[u8],
+    at: Place,
+    width: u32,
+    order: usize,
+    out: &mut [i32],
+) -> Result<Place, Refusal>
     requires { (width ≤ 32) × (order ≤ 32) × (order ≤ length out.old) }
     ensures { samples_at result out.new ≡ run_at (lpc order width (length out.old)) s.now at }
 {
-    let warm = decode_verbatim(s, at, width, &mut out[..order]);
-    let Decoded::Done(p) = warm else {
-        return warm;
-    };
-    let quantizer = read_quantizer(s, p);
-    match quantizer {
-        QuantizerRead::Known(precision, shift, q) => decode_lpc_after_shift(
-            s, q, precision, shift, order, out,
-        ),
-        QuantizerRead::Refused(e) => Decoded::Refused(e),
-    }
+    let p = decode_verbatim(s, at, width, &mut out[..order])?;
+    let ((precision, shift), q) = read_quantizer(s, p)?;
+    decode_lpc_after_shift(s, q, precision, shift, order, out)
 }
 
 // The samples of a subframe by its type, `width` bits each: the wasted bits are not stored.
-fn decode_kind(s: &[u8], at: Place, kind: SubframeType, width: u32, out: &mut [i32]) -> Decoded
+fn decode_kind(
+    s: &[u8],
+    at: Place,
+    kind: SubframeType,
+    width: u32,
+    out: &mut [i32],
+) -> Result<Place, Refusal>
     requires { (width ≤ 32) × Orderly kind × (order_of kind ≤ length out.old) }
     ensures { samples_at result out.new ≡ run_at (samples_by_type kind width (length out.old)) s.now at }
 {
@@ -149,48 +139,41 @@ fn decode_after_header(
     h: SubframeHeader,
     width: u32,
     out: &mut [i32],
-) -> Decoded
+) -> Result<Place, Refusal>
     requires { (width ≤ 32) × Orderly h.kind × (h.wasted ≤ width) }
     ensures { samples_at result out.new ≡ run_at (subframe_after_header (length out.old) width h) s.now at }
 {
     let kind = h.kind;
     let wasted = h.wasted;
     if !reading::is_inside(s, at) {
-        return Decoded::Refused(Refusal::CutShort);
+        return Err(Refusal::CutShort);
     }
     if out.len() < order_of(kind) {
-        return Decoded::Refused(Refusal::BadShape);
+        return Err(Refusal::BadShape);
     }
-    let decoded = decode_kind(s, at, kind, width - wasted, out);
-    let Decoded::Done(p) = decoded else {
-        return decoded;
-    };
+    let p = decode_kind(s, at, kind, width - wasted, out)?;
     shift_all(out, wasted);
-    Decoded::Done(p)
+    Ok(p)
 }
 
 // A header and what follows it. No channel has samples of more than 32 bits, so such a width is a bad argument.
-fn decode_subframe(s: &[u8], at: Place, width: u32, out: &mut [i32]) -> Decoded
+fn decode_subframe(s: &[u8], at: Place, width: u32, out: &mut [i32]) -> Result<Place, Refusal>
     ensures { samples_at result out.new ≡ subframe_at width (length out.old) s.now at }
 {
     if 32 < width {
-        return Decoded::Refused(Refusal::BadArgument);
+        return Err(Refusal::BadArgument);
     }
-    let read = read_subframe_header(s, at, width);
-    match read {
-        SubframeHeaderRead::Header(h, p) => decode_after_header(s, p, h, width, out),
-        SubframeHeaderRead::Refused(e) => Decoded::Refused(e),
-    }
+    let (h, p) = read_subframe_header(s, at, width)?;
+    decode_after_header(s, p, h, width, out)
 }
 
 // One channel, of as many samples as `out` has, `width` bits each. On a refusal `out` is filled with zeros.
-pub fn decode(s: &[u8], at: Place, width: u32, out: &mut [i32]) -> Decoded
+pub fn decode(s: &[u8], at: Place, width: u32, out: &mut [i32]) -> Result<Place, Refusal>
     ensures { Left (subframe_at width (length out.old) s.now at) (length out.old) result out.new }
 {
     let decoded = decode_subframe(s, at, width, out);
-    let Decoded::Done(p) = decoded else {
+    if decoded.is_err() {
         block::fill(out, 0);
-        return decoded;
-    };
-    Decoded::Done(p)
+    }
+    decoded
 }

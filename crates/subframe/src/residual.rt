@@ -5,50 +5,39 @@ ghost use Rattle.reading.specs.Readers.{many, each};
 ghost use Rattle.reading.specs.Places.{run_at};
 ghost use Rattle.rfc9639.specs.Integers.{signed_bits};
 ghost use Rattle.rfc9639.specs.Residual.{folded as folded_of, unfolded, rice, escaped, partition, residual};
+ghost use Rattle.error.specs.Answers.{read_at};
 ghost use Rattle.subframe.specs.Answers.{samples_at};
-ghost use Rattle.subframe.specs.Private.{sample_read_at, place_after, rice_read_at, StartsInWord};
+ghost use Rattle.subframe.specs.Private.{place_after, rice_read_at, StartsInWord};
 
-use super::Decoded;
-use super::answers::{BitOffset, RiceRead, SampleRead};
-use error::Refusal;
-use input::Bits;
+use super::answers::BitOffset;
+use error::{Read, Refusal};
 use reading::Place;
 
-pub fn read_sample(s: &[u8], at: Place, width: u32) -> SampleRead
+pub fn read_sample(s: &[u8], at: Place, width: u32) -> Read<i32>
     requires { width ≤ 32 }
-    ensures { sample_read_at result ≡ run_at (signed_bits width) s.now at }
+    ensures { read_at result ≡ run_at (signed_bits width) s.now at }
 {
-    let read = input::read_bits(s, at, width);
-    let Bits::Value(v, p) = read else {
-        return SampleRead::Short;
-    };
-    SampleRead::Value(number::low32(signed::sign_extend(v, width)), p)
+    let (v, p) = input::read_bits(s, at, width)?;
+    Ok((number::low32(signed::sign_extend(v, width)), p))
 }
 
 // As many samples as `out` has (RFC 9639 section 9.2.4).
-pub fn decode_verbatim(s: &[u8], at: Place, width: u32, out: &mut [i32]) -> Decoded
+pub fn decode_verbatim(s: &[u8], at: Place, width: u32, out: &mut [i32]) -> Result<Place, Refusal>
     requires { width ≤ 32 }
     ensures { samples_at result out.new ≡ run_at (many (length out.old) (signed_bits width)) s.now at }
 {
     if !reading::is_inside(s, at) {
-        return Decoded::Refused(Refusal::CutShort);
+        return Err(Refusal::CutShort);
     }
     let mut p = at;
     let mut i = 0;
     while i < out.len() {
-        let read = read_sample(s, p, width);
-        match read {
-            SampleRead::Value(x, q) => {
-                out[i] = x;
-                p = q;
-                i += 1;
-            }
-            SampleRead::Short => {
-                return Decoded::Refused(Refusal::CutShort);
-            }
-        }
+        let (x, next) = read_sample(s, p, width)?;
+        out[i] = x;
+        p = next;
+        i += 1;
     }
-    Decoded::Done(p)
+    Ok(p)
 }
 
 // The low 32 bits of the number with this quotient and this remainder of k bits.
@@ -60,19 +49,13 @@ fn folded(q: u64, r: u64, k: u32) -> u32
 }
 
 // One residual of Rice parameter k (RFC 9639 section 9.2.7.2), wherever its code ends.
-fn read_long_rice(s: &[u8], at: Place, k: u32) -> SampleRead
+fn read_long_rice(s: &[u8], at: Place, k: u32) -> Read<i32>
     requires { k ≤ 31 }
-    ensures { sample_read_at result ≡ run_at (rice k) s.now at }
+    ensures { read_at result ≡ run_at (rice k) s.now at }
 {
-    let high = input::read_unary(s, at);
-    let Bits::Value(q, p) = high else {
-        return SampleRead::Short;
-    };
-    let low = input::read_bits(s, p, k);
-    let Bits::Value(r, next) = low else {
-        return SampleRead::Short;
-    };
-    SampleRead::Value(signed::unfold(folded(q, r, k)), next)
+    let (q, p) = input::read_unary(s, at)?;
+    let (r, next) = input::read_bits(s, p, k)?;
+    Ok((signed::unfold(folded(q, r, k)), next))
 }
 
 // Whole bytes of the bits go to the byte.
@@ -87,19 +70,18 @@ fn place_at(at: BitOffset) -> Place
 }
 
 // The same at the place so many bits after a byte.
-fn read_any_rice(s: &[u8], at: BitOffset, k: u32) -> RiceRead
+fn read_any_rice(s: &[u8], at: BitOffset, k: u32) -> Result<(i32, BitOffset), Refusal>
     requires { (k ≤ 31) × (at.byte ≤ length s.now) × (at.bits < 64) }
     ensures { (rice_read_at result ≡ run_at (rice k) s.now (place_after at)) × StartsInWord result }
 {
-    let read = read_long_rice(s, place_at(at), k);
-    match read {
-        SampleRead::Value(x, p) => {
-            let byte = p.byte;
-            let bits = p.bit;
-            RiceRead::Value(x, BitOffset { byte, bits })
-        }
-        SampleRead::Short => RiceRead::Short,
-    }
+    let (x, p) = read_long_rice(s, place_at(at), k)?;
+    Ok((
+        x,
+        BitOffset {
+            byte: p.byte,
+            bits: p.bit,
+        },
+    ))
 }
 
 // The residual whose code's first 1 bit is bit `top` of a word, where bit 63 is the first: 63 - top zeros come before
@@ -115,7 +97,7 @@ fn code_at_top(w: u64, top: u32, k: u32) -> i32
 // The same, quickly: nearly every code ends before the last bit of the word from the byte on, and is cut out of that
 // word. The first shift drops the bits before the code. The byte is where the code before starts: it does not depend on
 // that code's length, so the machine loads the word early.
-fn read_rice(s: &[u8], at: BitOffset, k: u32) -> RiceRead
+fn read_rice(s: &[u8], at: BitOffset, k: u32) -> Result<(i32, BitOffset), Refusal>
     requires { (k ≤ 31) × (at.byte ≤ length s.now) × (at.bits < 64) }
     ensures { (rice_read_at result ≡ run_at (rice k) s.now (place_after at)) × StartsInWord result }
 {
@@ -129,63 +111,50 @@ fn read_rice(s: &[u8], at: BitOffset, k: u32) -> RiceRead
     if top as usize <= bits + k as usize {
         return read_any_rice(s, at, k);
     }
-    RiceRead::Value(
+    Ok((
         code_at_top(w, top, k),
         BitOffset {
             byte: byte + bits / 8,
             bits: (bits % 8 + k as usize + 64) - top as usize,
         },
-    )
+    ))
 }
 
 // As many residuals as `out` has.
-fn decode_rice(s: &[u8], at: Place, k: u32, out: &mut [i32]) -> Decoded
+fn decode_rice(s: &[u8], at: Place, k: u32, out: &mut [i32]) -> Result<Place, Refusal>
     requires { k ≤ 31 }
     ensures { samples_at result out.new ≡ run_at (many (length out.old) (rice k)) s.now at }
 {
     if !reading::is_inside(s, at) {
-        return Decoded::Refused(Refusal::CutShort);
+        return Err(Refusal::CutShort);
     }
     let byte = at.byte;
     let bits = at.bit;
     let mut p = BitOffset { byte, bits };
     let mut i = 0;
     while i < out.len() {
-        let read = read_rice(s, p, k);
-        match read {
-            RiceRead::Value(x, q) => {
-                out[i] = x;
-                p = q;
-                i += 1;
-            }
-            RiceRead::Short => {
-                return Decoded::Refused(Refusal::CutShort);
-            }
-        }
+        let (x, next) = read_rice(s, p, k)?;
+        out[i] = x;
+        p = next;
+        i += 1;
     }
-    Decoded::Done(place_at(p))
+    Ok(place_at(p))
 }
 
 // An escaped partition (RFC 9639 section 9.2.7.1): a width, then as many residuals of it as `out` has.
-fn decode_escaped(s: &[u8], at: Place, out: &mut [i32]) -> Decoded
+fn decode_escaped(s: &[u8], at: Place, out: &mut [i32]) -> Result<Place, Refusal>
     ensures { samples_at result out.new ≡ run_at (escaped (length out.old)) s.now at }
 {
-    let read = input::read_bits(s, at, 5);
-    let Bits::Value(width, p) = read else {
-        return Decoded::Refused(Refusal::CutShort);
-    };
+    let (width, p) = input::read_bits(s, at, 5)?;
     decode_verbatim(s, p, width as u32, out)
 }
 
 // A partition (RFC 9639 section 9.2.7). The last parameter is the escape code.
-fn decode_partition(s: &[u8], at: Place, method: u32, out: &mut [i32]) -> Decoded
+fn decode_partition(s: &[u8], at: Place, method: u32, out: &mut [i32]) -> Result<Place, Refusal>
     requires { method < 2 }
     ensures { samples_at result out.new ≡ run_at (partition method (length out.old)) s.now at }
 {
-    let read = input::read_bits(s, at, 4 + method);
-    let Bits::Value(k, p) = read else {
-        return Decoded::Refused(Refusal::CutShort);
-    };
+    let (k, p) = input::read_bits(s, at, 4 + method)?;
     if k == (16u64 << method) - 1 {
         return decode_escaped(s, p, out);
     }
@@ -200,31 +169,23 @@ fn decode_equal_partitions(
     size: usize,
     count: usize,
     out: &mut [i32],
-) -> Decoded
+) -> Result<Place, Refusal>
     requires { (method < 2) × (length out.old ≡ count * size) }
     ensures { samples_at result out.new ≡ run_at (each (partition method) (replicate count size)) s.now at }
 {
     if !reading::is_inside(s, at) {
-        return Decoded::Refused(Refusal::CutShort);
+        return Err(Refusal::CutShort);
     }
     let mut p = at;
     let mut start = 0;
     let mut left = count;
     while 0 < left {
         let end = start + size;
-        let read = decode_partition(s, p, method, &mut out[start..end]);
-        match read {
-            Decoded::Done(q) => {
-                p = q;
-                start = end;
-                left -= 1;
-            }
-            Decoded::Refused(e) => {
-                return Decoded::Refused(e);
-            }
-        }
+        p = decode_partition(s, p, method, &mut out[start..end])?;
+        start = end;
+        left -= 1;
     }
-    Decoded::Done(p)
+    Ok(p)
 }
 
 // All partitions. The first has fewer residuals, by the number of warm-up samples.
@@ -236,41 +197,38 @@ fn decode_partitions(
     count: usize,
     warm: usize,
     out: &mut [i32],
-) -> Decoded
+) -> Result<Place, Refusal>
     requires { (method < 2) × (warm ≤ size) × (length out.old ≡ (size - warm) + count * size) }
     ensures { samples_at result out.new ≡ run_at (each (partition method) ((size - warm) ∷ replicate count size)) s.now at }
 {
     let first = size - warm;
-    let read = decode_partition(s, at, method, &mut out[..first]);
-    let Decoded::Done(p) = read else {
-        return read;
-    };
+    let p = decode_partition(s, at, method, &mut out[..first])?;
     decode_equal_partitions(s, p, method, size, count, &mut out[first..])
 }
 
 // The residual of a block of n samples after `warm` warm-up samples (RFC 9639 section 9.2.7).
-pub fn decode_residual(s: &[u8], at: Place, warm: usize, n: usize, out: &mut [i32]) -> Decoded
+pub fn decode_residual(
+    s: &[u8],
+    at: Place,
+    warm: usize,
+    n: usize,
+    out: &mut [i32],
+) -> Result<Place, Refusal>
     requires { (warm ≤ n) × (length out.old ≡ n - warm) }
     ensures { samples_at result out.new ≡ run_at (residual warm n) s.now at }
 {
-    let first = input::read_bits(s, at, 2);
-    let Bits::Value(method, p) = first else {
-        return Decoded::Refused(Refusal::CutShort);
-    };
+    let (method, p) = input::read_bits(s, at, 2)?;
     if 2 <= method {
-        return Decoded::Refused(Refusal::Reserved);
+        return Err(Refusal::Reserved);
     }
-    let second = input::read_bits(s, p, 4);
-    let Bits::Value(order, q) = second else {
-        return Decoded::Refused(Refusal::CutShort);
-    };
+    let (order, q) = input::read_bits(s, p, 4)?;
     let count = 1usize << order;
     if n % count != 0 {
-        return Decoded::Refused(Refusal::BadShape);
+        return Err(Refusal::BadShape);
     }
     let size = n / count;
     if size < warm {
-        return Decoded::Refused(Refusal::BadShape);
+        return Err(Refusal::BadShape);
     }
     decode_partitions(s, q, method as u32, size, count - 1, warm, out)
 }

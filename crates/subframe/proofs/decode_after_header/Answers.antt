@@ -14,14 +14,14 @@ returns-then-out-order_of c =
     let a = c.args in let here = inside_in a.s.now a.at (sym c.is_inside.ensures ∙ c.if-not-is_inside.false) in
     order_too_high (length a.out.now) a.width a.h a.s.now a.at here (omega (arith, c.order_of.ensures, c.if-out-order_of.true))
 
-pub returns-in_default : goal.returns-in_default
-returns-in_default c =
-    let a = c.args in let here = inside_in a.s.now a.at (sym c.is_inside.ensures ∙ c.if-not-is_inside.false) in let d = c.decode_kind-decoded in
-    after-header_refused (length a.out.now) a.width a.h a.s.now a.at here (omega (arith, c.order_of.ensures, c.if-out-order_of.false)) d.new.out d.ensures
-    c.in_default.is _
+pub returns-in_err-p : goal.returns-in_err-p
+returns-in_err-p c =
+    let a = c.args in let here = inside_in a.s.now a.at (sym c.is_inside.ensures ∙ c.if-not-is_inside.false) in
+    after-header_refused (length a.out.now) a.width a.h a.s.now a.at here (omega (arith, c.order_of.ensures, c.if-out-order_of.false)) _ _
+    c.from_residual.ensures.1 c.in_err-p.ensures _
 
 pub returns : goal.returns
 returns c =
-    let a = c.args in let here = inside_in a.s.now a.at (sym c.is_inside.ensures ∙ c.if-not-is_inside.false) in let d = c.decode_kind-decoded in
-    after-header-done (length a.out.now) a.width a.h a.s.now a.at here (omega (arith, c.order_of.ensures, c.if-out-order_of.false)) d.new.out d.ensures
-    c.in-Done.is c.shift_all.ensures
+    let a = c.args in let here = inside_in a.s.now a.at (sym c.is_inside.ensures ∙ c.if-not-is_inside.false) in
+    after-header-done (length a.out.now) a.width a.h a.s.now a.at here (omega (arith, c.order_of.ensures, c.if-out-order_of.false)) c.in_ok-p.ensures
+    c.shift_all.ensures

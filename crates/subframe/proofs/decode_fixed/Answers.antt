@@ -23,29 +23,28 @@ rest order n w = residual order n >>= (λ r. done (predict (fixed_coefficients o
 pub slice_bounds-decode_verbatim-end-2 : goal.slice_bounds-decode_verbatim-end-2
 slice_bounds-decode_verbatim-end-2 c = sym (length-take-le _ _ (omega arith))
 
-pub returns-in_default : goal.returns-in_default
+pub returns-in_err-p : goal.returns-in_err-p
 unfolding fixed
-returns-in_default c =
-    let a = c.args in let d = c.decode_verbatim-warm in
-    front-stops (λ k. many k (signed_bits a.width)) a.s.now a.at a.order a.out.now c.requires.2 d.new.out d.ensures (rest a.order (length a.out.now))
-    c.in_default.is _
+returns-in_err-p c =
+    let a = c.args in
+    front-stops (λ k. many k (signed_bits a.width)) a.s.now a.at a.order a.out.now c.requires.2 (rest a.order (length a.out.now)) _ _
+    c.from_residual.ensures.1 c.in_err-p.ensures _
 
 pub slice_bounds-decode_predicted-end : goal.slice_bounds-decode_predicted-end
 slice_bounds-decode_predicted-end c = sym (length-take-le _ _ (omega arith))
 
 pub decode_predicted-requires : goal.decode_predicted-requires
 decode_predicted-requires c =
-    let a = c.args in let d = c.decode_verbatim-warm in
+    let a = c.args in let d = c.decode_verbatim in
     predictable (d.new.out ++ drop a.order a.out.now) c.fixed_coefficients-coefficients.ensures (fixed-row a.order c.requires.1) (omega (arith, c.requires.1))
     (omega (arith, front_replaced-length a.order a.out.now c.requires.2 d.new.out d.auto.out, c.requires.2))
 
 pub returns : goal.returns
 unfolding fixed
 returns c =
-    let a = c.args in let d = c.decode_verbatim-warm in
+    let a = c.args in let d = c.decode_verbatim in
     c.decode_predicted.ensures
     ∙ predicted_block_lem (d.new.out ++ drop a.order a.out.now) c.fixed_coefficients-coefficients.ensures (fixed-row a.order c.requires.1) 0
     (length a.out.now) d.new.out (first_taken a.order a.out.now c.requires.2 d.new.out d.auto.out (drop a.order a.out.now))
-    (front_replaced-length a.order a.out.now c.requires.2 d.new.out d.auto.out) a.s.now c.in-Done.p
-    ∙ front_then (λ k. many k (signed_bits a.width)) a.s.now a.at a.order a.out.now c.requires.2 d.new.out d.ensures (rest a.order (length a.out.now))
-    c.in-Done.is
+    (front_replaced-length a.order a.out.now c.requires.2 d.new.out d.auto.out) a.s.now c.in_ok-p.p
+    ∙ front_then (λ k. many k (signed_bits a.width)) a.s.now a.at a.order a.out.now c.requires.2 c.in_ok-p.ensures (rest a.order (length a.out.now))

@@ -33,37 +33,36 @@ within order h cs kept = omega (arith, front_replaced-length order room h cs kep
 pub slice_bounds-decode_verbatim-end : goal.slice_bounds-decode_verbatim-end
 slice_bounds-decode_verbatim-end c = sym (length-take-le c.args.order room c.requires.2)
 
-pub returns-in_default : goal.returns-in_default
+pub returns-in_err-p : goal.returns-in_err-p
 unfolding lpc_after_shift
-returns-in_default c =
-    let a = c.args in let d = c.decode_verbatim-read in
-    front-stops (λ k. many k (signed_bits a.precision)) a.s.now a.at a.order room c.requires.2 d.new.out d.ensures (rest a.order a.shift a.out.now)
-    c.in_default.is _
+returns-in_err-p c =
+    let a = c.args in
+    front-stops (λ k. many k (signed_bits a.precision)) a.s.now a.at a.order room c.requires.2 (rest a.order a.shift a.out.now) _ _
+    c.from_residual.ensures.1 c.in_err-p.ensures _
 
 pub slice_bounds-coefficients-end-2 : goal.slice_bounds-coefficients-end-2
-slice_bounds-coefficients-end-2 c = within c.args.order c.requires.2 c.decode_verbatim-read.new.out c.decode_verbatim-read.auto.out
+slice_bounds-coefficients-end-2 c = within c.args.order c.requires.2 c.decode_verbatim.new.out c.decode_verbatim.auto.out
 
 pub slice_bounds-decode_predicted-end : goal.slice_bounds-decode_predicted-end
 slice_bounds-decode_predicted-end c =
-    sym (length-take-le _ _ (within c.args.order c.requires.2 c.decode_verbatim-read.new.out c.decode_verbatim-read.auto.out))
+    sym (length-take-le _ _ (within c.args.order c.requires.2 c.decode_verbatim.new.out c.decode_verbatim.auto.out))
 
 -- as many coefficients as the order, each small
 pub decode_predicted-requires : goal.decode_predicted-requires
 decode_predicted-requires c =
-    let a = c.args in let d = c.decode_verbatim-read in
+    let a = c.args in let d = c.decode_verbatim in
     predictable a.out.now (front a.order c.requires.2 d.new.out d.auto.out)
     (read-row a.precision a.order c.requires.0 a.s.now a.at
-    (front-got (λ k. many k (signed_bits a.precision)) a.s.now a.at a.order room c.requires.2 d.new.out d.ensures c.in-Done.is))
+    (front-got (λ k. many k (signed_bits a.precision)) a.s.now a.at a.order room c.requires.2 c.in_ok-p.ensures))
     c.requires.2 c.requires.3
 
 pub returns : goal.returns
 unfolding lpc_after_shift
 returns c =
-    let a = c.args in let d = c.decode_verbatim-read in
+    let a = c.args in let d = c.decode_verbatim in
     c.decode_predicted.ensures
     ∙ predicted_block_lem a.out.now (front a.order c.requires.2 d.new.out d.auto.out)
     (read-row a.precision a.order c.requires.0 a.s.now a.at
-    (front-got (λ k. many k (signed_bits a.precision)) a.s.now a.at a.order room c.requires.2 d.new.out d.ensures c.in-Done.is))
-    a.shift (length a.out.now) (take a.order a.out.now) refl refl a.s.now c.in-Done.p
-    ∙ front_then (λ k. many k (signed_bits a.precision)) a.s.now a.at a.order room c.requires.2 d.new.out d.ensures (rest a.order a.shift a.out.now)
-    c.in-Done.is
+    (front-got (λ k. many k (signed_bits a.precision)) a.s.now a.at a.order room c.requires.2 c.in_ok-p.ensures))
+    a.shift (length a.out.now) (take a.order a.out.now) refl refl a.s.now c.in_ok-p.p
+    ∙ front_then (λ k. many k (signed_bits a.precision)) a.s.now a.at a.order room c.requires.2 c.in_ok-p.ensures (rest a.order a.shift a.out.now)

@@ -19,15 +19,13 @@ offset_bounds-out-start c = omega (arith, room c.loop-left.invariant (omega arit
 
 pub loop-left-preserved : goal.loop-left-preserved
 loop-left-preserved c =
-    step c.loop-left.invariant (omega arith) _ c.decode_partition-read.ensures c.in-Done.is c.decode_partition-read.auto.out
+    step c.loop-left.invariant (omega arith) c.in_ok-p.ensures c.decode_partition.auto.out
 
-pub shape_of-out-in-Refused : goal.shape_of-out-in-Refused
-shape_of-out-in-Refused c =
-    part-keeps-length c.loop-left.invariant (omega arith) c.decode_partition-read.new.out c.decode_partition-read.auto.out
+pub shape_of-out-in_err-p : goal.shape_of-out-in_err-p
+shape_of-out-in_err-p c = part-keeps-length c.loop-left.invariant (omega arith) c.decode_partition.new.out c.decode_partition.auto.out
 
-pub returns-in-Refused : goal.returns-in-Refused
-returns-in-Refused c =
-    stops c.loop-left.invariant (omega arith) c.decode_partition-read.new.out c.decode_partition-read.ensures c.in-Refused.is
+pub returns-in_err-p : goal.returns-in_err-p
+returns-in_err-p c = stops c.loop-left.invariant (omega arith) _ _ c.from_residual.ensures.1 c.in_err-p.ensures _
 
 pub shape_of-out : goal.shape_of-out
 shape_of-out c = c.loop-left.invariant.long

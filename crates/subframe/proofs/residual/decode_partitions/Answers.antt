@@ -14,15 +14,15 @@ use Rattle.subframe.proofs.residual.decode_partitions.Goals as goal
 pub slice_bounds-decode_partition-end-2 : goal.slice_bounds-decode_partition-end-2
 slice_bounds-decode_partition-end-2 c = sym (length-take-le _ _ (omega arith))
 
-pub returns-in_default : goal.returns-in_default
+pub returns-in_err-p : goal.returns-in_err-p
 unfolding each
-returns-in_default c =
-    let a = c.args in let d = c.decode_partition-read in
-    front-stops (partition a.method) a.s.now a.at (a.size - a.warm) a.out.now (omega arith) d.new.out d.ensures _ c.in_default.is _
+returns-in_err-p c =
+    let a = c.args in
+    front-stops (partition a.method) a.s.now a.at (a.size - a.warm) a.out.now (omega arith) _ _ _ c.from_residual.ensures.1 c.in_err-p.ensures _
 
 pub returns : goal.returns
 returns c =
-    let a = c.args in let d = c.decode_partition-read in let r = c.decode_equal_partitions in
+    let a = c.args in let d = c.decode_partition in let r = c.decode_equal_partitions in
     ap (samples_at r.result) (parts-put (a.size - a.warm) a.out.now (omega arith) d.new.out d.auto.out r.new.out)
     ∙ first_then (partition a.method) (a.size - a.warm) (replicate a.count a.size) a.s.now a.at
-    (front-got (partition a.method) a.s.now a.at (a.size - a.warm) a.out.now (omega arith) d.new.out d.ensures c.in-Done.is) r.result r.new.out r.ensures
+    (front-got (partition a.method) a.s.now a.at (a.size - a.warm) a.out.now (omega arith) c.in_ok-p.ensures) r.result r.new.out r.ensures

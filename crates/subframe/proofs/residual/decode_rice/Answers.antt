@@ -1,11 +1,10 @@
 -- `decode_rice`: each turn stores one residual (Filling). Assumes nothing.
 use native.Mathlib.Omega.{arith}
-use mathlib.Core.Path.{refl, ap, sym, ◌∙◌, subst}
+use mathlib.Core.Path.{ap, sym, ◌∙◌}
 use borrow.Author.Rules.{rules}
 use Rattle.reading.specs.Places.{got_at}
 use Rattle.reading.proofs.ByteRuns.{inside_in, position-place, run_at-out}
-use Rattle.subframe.specs.Private.{rice_read_at, StartsInWord}
-use Rattle.subframe.proofs.FilledSlices.{begin, step, cut, end}
+use Rattle.subframe.proofs.FilledSlices.{begin, step, stops, end}
 use Rattle.subframe.proofs.RiceWords.{byte-within}
 use Rattle.subframe.proofs.residual.decode_rice.Goals as goal
 
@@ -17,17 +16,17 @@ loop-i-init c =
     let a = c.args in let here = inside_in a.s.now a.at (sym c.is_inside.ensures ∙ c.if-not-is_inside.false) in
     (rw (position-place a.at here.bit) (begin _ _ here), omega (arith, here.bit))
 
-pub read_rice-read-requires : goal.read_rice-read-requires
-read_rice-read-requires c = let inv = c.loop-i.invariant in (omega arith, byte-within _ inv.0.place, inv.1)
+pub read_rice-requires : goal.read_rice-requires
+read_rice-requires c = let inv = c.loop-i.invariant in (omega arith, byte-within _ inv.0.place, inv.1)
 
 pub loop-i-preserved : goal.loop-i-preserved
 loop-i-preserved c = (
-  step c.loop-i.invariant.0 rice_read_at c.read_rice-read.ensures.0 c.in-Value.is refl (search rules) (omega arith),
-  subst StartsInWord c.in-Value.is c.read_rice-read.ensures.1,
+  step c.loop-i.invariant.0 c.in_ok-x.ensures.0 (search rules) (omega arith),
+  c.in_ok-x.ensures.1,
 )
 
-pub returns-in-Short : goal.returns-in-Short
-returns-in-Short c = cut c.loop-i.invariant.0 rice_read_at c.read_rice-read.ensures.0 c.in-Short.is refl (omega arith)
+pub returns-in_err-x : goal.returns-in_err-x
+returns-in_err-x c = stops c.loop-i.invariant.0 _ _ c.from_residual.ensures.1 c.in_err-x.ensures.0 (omega arith) _
 
 pub place_at-requires : goal.place_at-requires
 place_at-requires c = let inv = c.loop-i.invariant in (omega (arith, byte-within _ inv.0.place), inv.1)
