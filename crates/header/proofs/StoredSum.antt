@@ -8,9 +8,12 @@ use lib.ListN.{take}
 use Rattle.reading.specs.declared.Place.{Place}
 use Rattle.reading.specs.Readers.{Ask, ◌>>=◌, bits, passed, require}
 use Rattle.reading.specs.Bytes.{bits_of_bytes}
-use Rattle.reading.specs.Places.{got_at, refused_at, short_at, run_at}
-use Rattle.reading.proofs.ByteRuns.{In, stays_in, run_at-done, run_at-stop, bind_got_lem, bind_short}
+use Rattle.reading.specs.Places.{got_at, refused_at, run_at}
+use Rattle.reading.proofs.ByteRuns.{In, stays_in, run_at-done, run_at-stop, bind_got_lem}
 use Rattle.reading.proofs.BytePrefixes.{passed-bytes}
+use Rattle.error.specs.declared.Refusal.{Refusal}
+use Rattle.error.specs.Numbers.{refused_by}
+use Rattle.error.proofs.Refusals.{bind_refusal}
 
 -- a sum of `width` bits over all that was read before it; n is the refusal of another sum
 abbrev pub stored : ℕ → (List ℕ → ℕ) → ℕ → Ask (Unit {0})
@@ -20,8 +23,8 @@ module _ (width : ℕ) (crc : List ℕ → ℕ) (n : ℕ) (s : List ℕ) (at : P
   bytes-passed : run_at (stored width crc n) s at ≡ run_at (bits width >>= (λ sum. require (eqb sum (crc (bits_of_bytes (take at.byte s)))) n)) s at
   bytes-passed = bind_got_lem passed s at _ (passed-bytes s at f h)
 
-  pub sum-short : run_at (bits width) s at ≡ short_at → run_at (stored width crc n) s at ≡ short_at
-  sum-short e = bytes-passed ∙ bind_short (bits width) s at _ e
+  pub no_sum : (x : Refusal) → run_at (bits width) s at ≡ refused_by x → run_at (stored width crc n) s at ≡ refused_by x
+  no_sum x e = bytes-passed ∙ bind_refusal (bits width) s at _ x e
 
   module _ {v sum : ℕ} {q : Place} (e : run_at (bits width) s at ≡ got_at v q) (g : sum ≡ crc (bits_of_bytes (take at.byte s))) where
     sum_judged : run_at (stored width crc n) s at ≡ run_at (require (eqb v sum) n) s q

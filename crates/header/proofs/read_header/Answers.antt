@@ -1,20 +1,19 @@
 -- The header at the start of the input: its first four bytes, then the rest. Assumes nothing.
 use mathlib.Core.Path.{sym, ◌∙◌}
 use Rattle.reading.proofs.ByteRuns.{bind_got_lem}
-use Rattle.rfc9639.specs.Header.{codes, header}
-use Rattle.header.specs.Private.{codes_at}
 use Rattle.error.proofs.Refusals.{bind_refusal}
-use Rattle.header.proofs.ReaderSteps.{answer_is}
+use Rattle.rfc9639.specs.Header.{codes, header}
+use Rattle.header.proofs.ReaderSteps.{exits_by}
 use Rattle.header.proofs.HeaderParts.{codes-coded, codes-aligned}
 use Rattle.header.proofs.read_header.Goals as goal
 
+pub returns-in_err-c : goal.returns-in_err-c
+unfolding header
+returns-in_err-c c = exits_by _ _ c.from_residual.ensures.1 (bind_refusal codes _ _ _ _ (sym c.in_err-c.ensures))
+
 pub read_header_after_codes-requires : goal.read_header_after_codes-requires
-read_header_after_codes-requires c = let e = answer_is codes_at c.read_codes-read.ensures c.in-Codes.is in let k = codes-coded _ e in (codes-aligned _ e, k.blocking, k.size)
+read_header_after_codes-requires c = let e = sym c.in_ok-c.ensures in let k = codes-coded _ e in (codes-aligned _ e, k.blocking, k.size)
 
-pub returns-in-Codes : goal.returns-in-Codes
+pub returns : goal.returns
 unfolding header
-returns-in-Codes c = c.read_header_after_codes.ensures ∙ sym (bind_got_lem codes _ _ _ (answer_is codes_at c.read_codes-read.ensures c.in-Codes.is))
-
-pub returns-in-Refused : goal.returns-in-Refused
-unfolding header
-returns-in-Refused c = sym (bind_refusal codes _ _ _ c.in-Refused.e (answer_is codes_at c.read_codes-read.ensures c.in-Refused.is))
+returns c = c.read_header_after_codes.ensures ∙ sym (bind_got_lem codes _ _ _ (sym c.in_ok-c.ensures))

@@ -8,6 +8,3 @@ use Rattle.header.proofs.read_stored.Goals as goal
 pub returns-then-n-eq0 : goal.returns-then-n-eq0
 unfolding low64 map_at
 returns-then-n-eq0 c = rw c.if-n-eq0.true (ap low64 (sym (bits_none (inside_in c.args.s.now c.args.at c.requires))))
-
-pub returns : goal.returns
-returns c = c.read_bits.ensures

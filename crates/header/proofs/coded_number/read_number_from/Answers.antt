@@ -1,42 +1,22 @@
--- The number by its first byte, test by test as in the definition. Assumes nothing.
+-- The first bytes that no other bytes follow: the number itself, or a refusal. Assumes nothing.
 use borrow.Author.Tests.{lt-ltb, le-ltb}
+use native.Mathlib.Omega.{arith}
 use mathlib.Core.Path.{sym}
-use Rattle.reading.proofs.ByteRuns.{inside_in, run_at-stop}
-use Rattle.rfc9639.specs.Number.{with_followers, number_from}
+use Rattle.reading.proofs.ByteRuns.{inside_in, run_at-done, run_at-stop}
+use Rattle.rfc9639.specs.Number.{number_from}
 use Rattle.header.proofs.coded_number.read_number_from.Goals as goal
 
-pub returns-then-b-lt128 : goal.returns-then-b-lt128
-unfolding number_from with_followers
-returns-then-b-lt128 c = rw (lt-ltb _ _ c.if-b-lt128.true) c.read_followers.ensures
-
-pub returns-then-b-lt192 : goal.returns-then-b-lt192
+pub returns-in-0-to-127 : goal.returns-in-0-to-127
 unfolding number_from
-returns-then-b-lt192 c = rw (le-ltb _ _ c.if-b-lt128.false, lt-ltb _ _ c.if-b-lt192.true) (sym (run_at-stop 5 (inside_in _ _ c.requires.1)))
+returns-in-0-to-127 c = rw (lt-ltb c.args.b 0x80 (omega arith)) (sym (run_at-done _ (inside_in _ _ c.requires.1)))
 
-pub returns-then-b-lt224 : goal.returns-then-b-lt224
+pub returns-in-128-to-191 : goal.returns-in-128-to-191
 unfolding number_from
-returns-then-b-lt224 c = rw (le-ltb _ _ c.if-b-lt128.false, le-ltb _ _ c.if-b-lt192.false, lt-ltb _ _ c.if-b-lt224.true) c.read_followers-then-b-lt224.ensures
+returns-in-128-to-191 c = rw (le-ltb c.args.b 0x80 (omega arith), lt-ltb c.args.b 0xc0 (omega arith)) (sym (run_at-stop 5 (inside_in _ _ c.requires.1)))
 
-pub returns-then-b-lt240 : goal.returns-then-b-lt240
+pub returns-in_default : goal.returns-in_default
 unfolding number_from
-returns-then-b-lt240 c = rw (le-ltb _ _ c.if-b-lt128.false, le-ltb _ _ c.if-b-lt192.false, le-ltb _ _ c.if-b-lt224.false, lt-ltb _ _ c.if-b-lt240.true) c.read_followers-then-b-lt240.ensures
-
-pub returns-then-b-lt248 : goal.returns-then-b-lt248
-unfolding number_from
-returns-then-b-lt248 c = rw (le-ltb _ _ c.if-b-lt128.false, le-ltb _ _ c.if-b-lt192.false, le-ltb _ _ c.if-b-lt224.false, le-ltb _ _ c.if-b-lt240.false, lt-ltb _ _ c.if-b-lt248.true) c.read_followers-then-b-lt248.ensures
-
-pub returns-then-b-lt252 : goal.returns-then-b-lt252
-unfolding number_from
-returns-then-b-lt252 c = rw (le-ltb _ _ c.if-b-lt128.false, le-ltb _ _ c.if-b-lt192.false, le-ltb _ _ c.if-b-lt224.false, le-ltb _ _ c.if-b-lt240.false, le-ltb _ _ c.if-b-lt248.false, lt-ltb _ _ c.if-b-lt252.true) c.read_followers-then-b-lt252.ensures
-
-pub returns-then-b-lt254 : goal.returns-then-b-lt254
-unfolding number_from
-returns-then-b-lt254 c = rw (le-ltb _ _ c.if-b-lt128.false, le-ltb _ _ c.if-b-lt192.false, le-ltb _ _ c.if-b-lt224.false, le-ltb _ _ c.if-b-lt240.false, le-ltb _ _ c.if-b-lt248.false, le-ltb _ _ c.if-b-lt252.false, lt-ltb _ _ c.if-b-lt254.true) c.read_followers-then-b-lt254.ensures
-
-pub returns-then-b-lt255 : goal.returns-then-b-lt255
-unfolding number_from
-returns-then-b-lt255 c = rw (le-ltb _ _ c.if-b-lt128.false, le-ltb _ _ c.if-b-lt192.false, le-ltb _ _ c.if-b-lt224.false, le-ltb _ _ c.if-b-lt240.false, le-ltb _ _ c.if-b-lt248.false, le-ltb _ _ c.if-b-lt252.false, le-ltb _ _ c.if-b-lt254.false, lt-ltb _ _ c.if-b-lt255.true) c.read_followers-then-b-lt255.ensures
-
-pub returns : goal.returns
-unfolding number_from
-returns c = rw (le-ltb _ _ c.if-b-lt128.false, le-ltb _ _ c.if-b-lt192.false, le-ltb _ _ c.if-b-lt224.false, le-ltb _ _ c.if-b-lt240.false, le-ltb _ _ c.if-b-lt248.false, le-ltb _ _ c.if-b-lt252.false, le-ltb _ _ c.if-b-lt254.false, le-ltb _ _ c.if-b-lt255.false) (sym (run_at-stop 5 (inside_in _ _ c.requires.1)))
+returns-in_default c =
+    let b = c.args.b in
+    rw (le-ltb b 0x80 (omega arith), le-ltb b 0xc0 (omega arith), le-ltb b 0xe0 (omega arith), le-ltb b 0xf0 (omega arith), le-ltb b 0xf8 (omega arith), le-ltb b 0xfc (omega arith), le-ltb b 0xfe (omega arith), le-ltb b 0xff (omega arith))
+    (sym (run_at-stop 5 (inside_in _ _ c.requires.1)))
