@@ -1,3 +1,2 @@
 -- What the functions of this crate answer, in the words of the definition.
 pub mod Answers
-pub mod Private

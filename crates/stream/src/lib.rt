@@ -3,323 +3,184 @@
 // `read_stream_start` and `read_block_head`. Each private function reads one part of the definition.
 #![tactic(auto)]
 
-mod answers;
-
-ghost use Rattle.std.specs.Prelude.{◌≡◌, true, ◌/◌, ◌%◌, ◌≤◌, ◌<◌, length};
+ghost use Rattle.std.specs.Prelude.{◌≡◌, true, ◌≤◌, ◌<◌, length};
 ghost use Rattle.reading.specs.Places.{inside, run_at, place_of};
+ghost use Rattle.error.specs.Answers.{read_at, passed_at};
 ghost use Rattle.rfc9639.specs.StreamHeader.{mark, sizes, rate_channels_and_bits, md5, stream_info, last_and_type, first_block, block_head, skipped_block, skipped_blocks, stream_start, stream_header_of};
-ghost use Rattle.stream.specs.Answers.{stream_at, start_at, head_at, md5_bytes};
-ghost use Rattle.stream.specs.Private.{passed_at, sizes_at, md5_at, format_at, info_at, last_and_type_at, first_block_at, skipped_at};
+ghost use Rattle.stream.specs.Answers.{stream_at, start_at, md5_bytes};
 
-use answers::{FirstBlock, FormatRead, InfoRead, LastAndType, Md5Read, Passed, SizesRead, Skipped};
-use error::Refusal;
-use input::Bits;
-use reading::Place;
+use error::{Read, Refusal};
+use input::read_bits;
+use reading::{Place, is_inside};
 use rfc9639::{Md5, STREAM_INFO_LENGTH, STREAM_MARK, Sizes, StreamInfo};
 
-// A stream header and how many bytes it takes, or why there is none.
-#[derive(Clone, Copy)]
-pub enum StreamRead {
-    Header(StreamInfo, usize),
-    Refused(Refusal),
-}
-
-// The mark and STREAMINFO: whether that is the last block, what it says, and how many bytes they take.
-#[derive(Clone, Copy)]
-pub enum StartRead {
-    Start(bool, StreamInfo, usize),
-    Refused(Refusal),
-}
-
-// Whether a block is the last one, the length of its contents in bytes, and the place where they start.
-#[derive(Clone, Copy)]
-pub enum BlockHead {
-    Head(bool, u64, Place),
-    Refused(Refusal),
-}
-
 // The four bytes fLaC.
-fn read_mark(s: &[u8], at: Place) -> Passed
+fn read_mark(s: &[u8], at: Place) -> Result<Place, Refusal>
     ensures { passed_at result ≡ run_at mark s.now at }
 {
-    let read = input::read_bits(s, at, 32);
-    let Bits::Value(v, p) = read else {
-        return Passed::Refused(Refusal::CutShort);
-    };
+    let (v, p) = read_bits(s, at, 32)?;
     if v != STREAM_MARK {
-        return Passed::Refused(Refusal::NotSync);
+        return Err(Refusal::NotSync);
     }
-    Passed::To(p)
+    Ok(p)
 }
 
 // The smallest and the largest, in w bits each.
-fn read_sizes(s: &[u8], at: Place, w: u32) -> SizesRead
+fn read_sizes(s: &[u8], at: Place, w: u32) -> Read<Sizes>
     requires { w ≤ 32 }
-    ensures { sizes_at result ≡ run_at (sizes w) s.now at }
+    ensures { read_at result ≡ run_at (sizes w) s.now at }
 {
-    let first = input::read_bits(s, at, w);
-    let Bits::Value(smallest, p) = first else {
-        return SizesRead::Short;
-    };
-    let second = input::read_bits(s, p, w);
-    let Bits::Value(largest, q) = second else {
-        return SizesRead::Short;
-    };
-    SizesRead::Sizes(
+    let (smallest, p) = read_bits(s, at, w)?;
+    let (largest, end) = read_bits(s, p, w)?;
+    Ok((
         Sizes {
             smallest: smallest as u32,
             largest: largest as u32,
         },
-        q,
-    )
+        end,
+    ))
 }
 
 // The sample rate, the number of channels and the bits of a sample, at least 4. The last two are stored less one.
-fn read_format(s: &[u8], at: Place) -> FormatRead
-    ensures { format_at result ≡ run_at rate_channels_and_bits s.now at }
+fn read_format(s: &[u8], at: Place) -> Read<(u32, u32, u32)>
+    ensures { read_at result ≡ run_at rate_channels_and_bits s.now at }
 {
-    let first = input::read_bits(s, at, 20);
-    let Bits::Value(rate, p) = first else {
-        return FormatRead::Refused(Refusal::CutShort);
-    };
-    let second = input::read_bits(s, p, 3);
-    let Bits::Value(channels, q) = second else {
-        return FormatRead::Refused(Refusal::CutShort);
-    };
-    let third = input::read_bits(s, q, 5);
-    let Bits::Value(bits, t) = third else {
-        return FormatRead::Refused(Refusal::CutShort);
-    };
+    let (rate, p) = read_bits(s, at, 20)?;
+    let (channels, q) = read_bits(s, p, 3)?;
+    let (bits, end) = read_bits(s, q, 5)?;
     if bits + 1 < 4 {
-        return FormatRead::Refused(Refusal::BadShape);
+        return Err(Refusal::BadShape);
     }
-    FormatRead::Format(rate as u32, channels as u32 + 1, bits as u32 + 1, t)
+    Ok(((rate as u32, channels as u32 + 1, bits as u32 + 1), end))
 }
 
 // The MD5's 16 bytes.
-fn read_md5(s: &[u8], at: Place) -> Md5Read
-    ensures { md5_at result ≡ run_at md5 s.now at }
+fn read_md5(s: &[u8], at: Place) -> Read<Md5>
+    ensures { read_at result ≡ run_at md5 s.now at }
 {
-    let first = input::read_bits(s, at, 64);
-    let Bits::Value(high, p) = first else {
-        return Md5Read::Short;
-    };
-    let second = input::read_bits(s, p, 64);
-    let Bits::Value(low, q) = second else {
-        return Md5Read::Short;
-    };
-    Md5Read::Md5(Md5 { high, low }, q)
+    let (high, p) = read_bits(s, at, 64)?;
+    let (low, end) = read_bits(s, p, 64)?;
+    Ok((Md5 { high, low }, end))
 }
 
 // The contents of STREAMINFO (RFC 9639 section 8.2).
-fn read_stream_info(s: &[u8], at: Place) -> InfoRead
-    ensures { info_at result ≡ run_at stream_info s.now at }
+fn read_stream_info(s: &[u8], at: Place) -> Read<StreamInfo>
+    ensures { read_at result ≡ run_at stream_info s.now at }
 {
-    let first = read_sizes(s, at, 16);
-    let SizesRead::Sizes(blocks, p) = first else {
-        return InfoRead::Refused(Refusal::CutShort);
+    let (blocks, p) = read_sizes(s, at, 16)?;
+    let (frames, q) = read_sizes(s, p, 24)?;
+    let ((rate, channels, bits), t) = read_format(s, q)?;
+    let (samples, u) = read_bits(s, t, 36)?;
+    let (md5, end) = read_md5(s, u)?;
+    let info = StreamInfo {
+        blocks,
+        frames,
+        rate,
+        channels,
+        bits,
+        samples,
+        md5,
     };
-    let second = read_sizes(s, p, 24);
-    let SizesRead::Sizes(frames, q) = second else {
-        return InfoRead::Refused(Refusal::CutShort);
-    };
-    let third = read_format(s, q);
-    match third {
-        FormatRead::Format(rate, channels, bits, t) => {
-            let fourth = input::read_bits(s, t, 36);
-            let Bits::Value(samples, u) = fourth else {
-                return InfoRead::Refused(Refusal::CutShort);
-            };
-            let last = read_md5(s, u);
-            let Md5Read::Md5(md5, end) = last else {
-                return InfoRead::Refused(Refusal::CutShort);
-            };
-            InfoRead::Info(
-                StreamInfo {
-                    blocks,
-                    frames,
-                    rate,
-                    channels,
-                    bits,
-                    samples,
-                    md5,
-                },
-                end,
-            )
-        }
-        FormatRead::Refused(e) => InfoRead::Refused(e),
-    }
+    Ok((info, end))
 }
 
-// The first byte of a metadata block (RFC 9639 section 8.1). Type 127 is forbidden.
-fn read_last_and_type(s: &[u8], at: Place) -> LastAndType
-    ensures { last_and_type_at result ≡ run_at last_and_type s.now at }
+// The first byte of a metadata block (RFC 9639 section 8.1): whether the block is the last one, and its type. Type 127
+// is forbidden.
+fn read_last_and_type(s: &[u8], at: Place) -> Read<(bool, u64)>
+    ensures { read_at result ≡ run_at last_and_type s.now at }
 {
-    let first = input::read_bits(s, at, 1);
-    let Bits::Value(last, p) = first else {
-        return LastAndType::Refused(Refusal::CutShort);
-    };
-    let second = input::read_bits(s, p, 7);
-    let Bits::Value(kind, q) = second else {
-        return LastAndType::Refused(Refusal::CutShort);
-    };
+    let (last, p) = read_bits(s, at, 1)?;
+    let (kind, q) = read_bits(s, p, 7)?;
     if kind == 127 {
-        return LastAndType::Refused(Refusal::Reserved);
+        return Err(Refusal::Reserved);
     }
-    LastAndType::Block(last == 1, kind, q)
+    Ok(((last == 1, kind), q))
 }
 
-// The first block: STREAMINFO, type 0, of 34 bytes.
-fn read_first_block(s: &[u8], at: Place) -> FirstBlock
-    ensures { first_block_at result ≡ run_at first_block s.now at }
+// The first block: STREAMINFO, type 0, of 34 bytes. Whether it is the last one, and what it says.
+fn read_first_block(s: &[u8], at: Place) -> Read<(bool, StreamInfo)>
+    ensures { read_at result ≡ run_at first_block s.now at }
 {
-    let head = read_last_and_type(s, at);
-    match head {
-        LastAndType::Block(last, kind, p) => {
-            if kind != 0 {
-                return FirstBlock::Refused(Refusal::BadShape);
-            }
-            let read = input::read_bits(s, p, 24);
-            let Bits::Value(size, q) = read else {
-                return FirstBlock::Refused(Refusal::CutShort);
-            };
-            if size != STREAM_INFO_LENGTH {
-                return FirstBlock::Refused(Refusal::BadShape);
-            }
-            let info = read_stream_info(s, q);
-            match info {
-                InfoRead::Info(told, end) => FirstBlock::Block(last, told, end),
-                InfoRead::Refused(e) => FirstBlock::Refused(e),
-            }
-        }
-        LastAndType::Refused(e) => FirstBlock::Refused(e),
+    let ((last, kind), p) = read_last_and_type(s, at)?;
+    if kind != 0 {
+        return Err(Refusal::BadShape);
     }
+    let (size, q) = read_bits(s, p, 24)?;
+    if size != STREAM_INFO_LENGTH {
+        return Err(Refusal::BadShape);
+    }
+    let (info, end) = read_stream_info(s, q)?;
+    Ok(((last, info), end))
 }
 
-// The mark and STREAMINFO, at the start of the input: its first 42 bytes.
-pub fn read_stream_start(s: &[u8]) -> StartRead
+// The mark and STREAMINFO, at the start of the input: its first 42 bytes. Whether that is the last block, what it says,
+// and how many bytes they take.
+pub fn read_stream_start(s: &[u8]) -> Result<(bool, StreamInfo, usize), Refusal>
     ensures { start_at result ≡ run_at stream_start s.now (place_of 0) }
 {
-    let found = read_mark(s, Place { byte: 0, bit: 0 });
-    match found {
-        Passed::To(p) => {
-            let first = read_first_block(s, p);
-            match first {
-                FirstBlock::Block(last, info, end) => StartRead::Start(last, info, end.byte),
-                FirstBlock::Refused(e) => StartRead::Refused(e),
-            }
-        }
-        Passed::Refused(e) => StartRead::Refused(e),
-    }
+    let p = read_mark(s, Place { byte: 0, bit: 0 })?;
+    let ((last, info), end) = read_first_block(s, p)?;
+    Ok((last, info, end.byte))
 }
 
-// The first four bytes of a block after STREAMINFO. Its type may be any but 127.
-pub fn read_block_head(s: &[u8], at: Place) -> BlockHead
-    ensures { head_at result ≡ run_at block_head s.now at }
+// The first four bytes of a block after STREAMINFO, which may have any type but 127: whether it is the last one, the
+// length of its contents in bytes, and the place where they start.
+pub fn read_block_head(s: &[u8], at: Place) -> Read<(bool, u64)>
+    ensures { read_at result ≡ run_at block_head s.now at }
 {
-    let head = read_last_and_type(s, at);
-    match head {
-        LastAndType::Block(last, _, p) => {
-            let read = input::read_bits(s, p, 24);
-            let Bits::Value(size, q) = read else {
-                return BlockHead::Refused(Refusal::CutShort);
-            };
-            BlockHead::Head(last, size, q)
-        }
-        LastAndType::Refused(e) => BlockHead::Refused(e),
-    }
+    let ((last, _), p) = read_last_and_type(s, at)?;
+    let (size, q) = read_bits(s, p, 24)?;
+    Ok(((last, size), q))
 }
 
-// A block after STREAMINFO. Its contents are not looked at: they need only be there.
-fn skip_block(s: &[u8], at: Place) -> Skipped
-    ensures { skipped_at result ≡ run_at skipped_block s.now at }
+// A block after STREAMINFO: whether it is the last one. Its contents are not looked at: they need only be there.
+fn skip_block(s: &[u8], at: Place) -> Read<bool>
+    ensures { read_at result ≡ run_at skipped_block s.now at }
 {
-    let head = read_block_head(s, at);
-    match head {
-        BlockHead::Head(last, size, p) => {
-            let end = Place {
-                byte: p.byte + size as usize,
-                bit: p.bit,
-            };
-            if !reading::is_inside(s, end) {
-                return Skipped::Refused(Refusal::CutShort);
-            }
-            Skipped::Block(last, end)
-        }
-        BlockHead::Refused(e) => Skipped::Refused(e),
+    let ((last, size), p) = read_block_head(s, at)?;
+    let end = Place {
+        byte: p.byte + size as usize,
+        bit: p.bit,
+    };
+    if !is_inside(s, end) {
+        return Err(Refusal::CutShort);
     }
+    Ok((last, end))
 }
 
 // The blocks up to the last one. Each takes at least four bytes, so an input has fewer blocks than bytes.
-fn skip_blocks(s: &[u8], at: Place) -> Passed
+fn skip_blocks(s: &[u8], at: Place) -> Result<Place, Refusal>
     requires { (0 < length s.now) × (inside s.now at ≡ true) }
     ensures { passed_at result ≡ run_at (skipped_blocks (length s.now)) s.now at }
 {
     let mut p = at;
     loop {
-        let block = skip_block(s, p);
-        match block {
-            Skipped::Block(last, q) => {
-                if last {
-                    return Passed::To(q);
-                }
-                p = q;
-            }
-            Skipped::Refused(e) => {
-                return Passed::Refused(e);
-            }
+        let (last, end) = skip_block(s, p)?;
+        if last {
+            return Ok(end);
         }
+        p = end;
     }
 }
 
-// The stream header at the start of the input.
-pub fn read_stream_header(s: &[u8]) -> StreamRead
+// The stream header at the start of the input, and how many bytes it takes.
+pub fn read_stream_header(s: &[u8]) -> Result<(StreamInfo, usize), Refusal>
     ensures { stream_at result ≡ stream_header_of s.now }
 {
-    let start = read_stream_start(s);
-    match start {
-        StartRead::Start(last, info, n) => {
-            if last {
-                return StreamRead::Header(info, n);
-            }
-            let rest = skip_blocks(s, Place { byte: n, bit: 0 });
-            match rest {
-                Passed::To(end) => StreamRead::Header(info, end.byte),
-                Passed::Refused(e) => StreamRead::Refused(e),
-            }
-        }
-        StartRead::Refused(e) => StreamRead::Refused(e),
+    let (last, info, n) = read_stream_start(s)?;
+    if last {
+        return Ok((info, n));
     }
-}
-
-// A byte of a number: what is left of it over d, without the higher bytes.
-fn byte_over(v: u64, d: u64) -> u8
-    requires { 0 < d }
-    ensures { result ≡ v / d % 256 }
-{
-    (v / d % 256) as u8
+    let end = skip_blocks(s, Place { byte: n, bit: 0 })?;
+    Ok((info, end.byte))
 }
 
 // The 16 bytes of an MD5, as they are stored.
 pub fn md5_bytes(sum: Md5) -> [u8; 16]
     ensures { result ≡ md5_bytes sum }
 {
-    [
-        byte_over(sum.high, 0x100_0000_0000_0000),
-        byte_over(sum.high, 0x1_0000_0000_0000),
-        byte_over(sum.high, 0x100_0000_0000),
-        byte_over(sum.high, 0x1_0000_0000),
-        byte_over(sum.high, 0x100_0000),
-        byte_over(sum.high, 0x1_0000),
-        byte_over(sum.high, 0x100),
-        byte_over(sum.high, 1),
-        byte_over(sum.low, 0x100_0000_0000_0000),
-        byte_over(sum.low, 0x1_0000_0000_0000),
-        byte_over(sum.low, 0x100_0000_0000),
-        byte_over(sum.low, 0x1_0000_0000),
-        byte_over(sum.low, 0x100_0000),
-        byte_over(sum.low, 0x1_0000),
-        byte_over(sum.low, 0x100),
-        byte_over(sum.low, 1),
-    ]
+    let mut bytes = [0; 16];
+    bytes[..8].copy_from_slice(&sum.high.to_be_bytes());
+    bytes[8..].copy_from_slice(&sum.low.to_be_bytes());
+    bytes
 }

@@ -1,27 +1,21 @@
 -- The MD5, as the definition reads it. Assumes nothing.
 use borrow.Author.Rules.{rules}
-use mathlib.Core.Path.{sym, ◌∙◌}
-use Rattle.reading.specs.Readers.{bits}
-use Rattle.reading.proofs.ByteRuns.{bind_got_lem, bind_short}
-use Rattle.reading.proofs.ReaderSteps.{then_done}
-use Rattle.input.proofs.Callers.{read-got, read_short}
+use mathlib.Core.Path.{ap, ◌∙◌}
+use Rattle.error.specs.Answers.{read_at}
 use Rattle.rfc9639.specs.StreamHeader.{md5}
+use Rattle.stream.proofs.ReadSteps.{exit, number, no_number, ends}
 use Rattle.stream.proofs.read_md5.Goals as goal
 
-pub returns-in_default : goal.returns-in_default
+pub returns-in_err-high : goal.returns-in_err-high
 unfolding md5
-returns-in_default c = sym (bind_short (bits 64) _ _ _ (read_short 64 _ _ (search rules) c.read_bits-first.ensures c.in_default.is))
+returns-in_err-high c = ap read_at (exit _ _ c.from_residual.ensures.1) ∙ no_number 64 _ _ _ (search rules) _ c.in_err-high.ensures
 
-pub returns-in_default-second : goal.returns-in_default-second
+pub returns-in_err-low : goal.returns-in_err-low
 unfolding md5
-returns-in_default-second c =
-    sym
-    (bind_got_lem (bits 64) _ _ _ (read-got 64 _ _ (search rules) c.read_bits-first.ensures c.in-Value.is)
-    ∙ bind_short (bits 64) _ _ _ (read_short 64 _ _ (search rules) c.read_bits-second.ensures c.in_default-second.is))
+returns-in_err-low c =
+    number 64 _ _ _ (search rules) c.in_ok-high.ensures
+    (λ _. ap read_at (exit _ _ c.from_residual-in_err-low.ensures.1) ∙ no_number 64 _ _ _ (search rules) _ c.in_err-low.ensures)
 
 pub returns : goal.returns
 unfolding md5
-returns c =
-    sym
-    (bind_got_lem (bits 64) _ _ _ (read-got 64 _ _ (search rules) c.read_bits-first.ensures c.in-Value.is)
-    ∙ then_done (bits 64) _ _ _ (read-got 64 _ _ (search rules) c.read_bits-second.ensures c.in-Value-second.is))
+returns c = number 64 _ _ _ (search rules) c.in_ok-high.ensures (λ _. number 64 _ _ _ (search rules) c.in_ok-low.ensures (λ i. ends _ _ _ i))

@@ -1,59 +1,49 @@
 -- The contents of STREAMINFO, as the definition reads them. Assumes nothing.
 use borrow.Author.Rules.{rules}
-use mathlib.Core.Path.{sym, ◌∙◌}
-use Rattle.reading.specs.Readers.{bits}
-use Rattle.reading.proofs.ByteRuns.{bind_got_lem, bind_short}
-use Rattle.reading.proofs.ReaderSteps.{answer_is, then_done}
-use Rattle.error.proofs.Refusals.{bind_refusal}
-use Rattle.input.proofs.Callers.{read-got, read_short}
+use mathlib.Core.Path.{ap, ◌∙◌}
+use Rattle.error.specs.Answers.{read_at}
 use Rattle.rfc9639.specs.StreamHeader.{sizes, rate_channels_and_bits, md5, stream_info}
-use Rattle.stream.specs.Private.{sizes_at, md5_at, format_at}
+use Rattle.stream.proofs.ReadSteps.{exit, number, no_number, goes_on, refused_first, ends}
 use Rattle.stream.proofs.read_stream_info.Goals as goal
 
-pub returns-in_default : goal.returns-in_default
+pub returns-in_err-blocks : goal.returns-in_err-blocks
 unfolding stream_info
-returns-in_default c = sym (bind_short (sizes 16) _ _ _ (answer_is sizes_at c.read_sizes-first.ensures c.in_default.is))
+returns-in_err-blocks c = ap read_at (exit _ _ c.from_residual.ensures.1) ∙ refused_first (sizes 16) _ _ _ _ c.in_err-blocks.ensures
 
-pub returns-in_default-second : goal.returns-in_default-second
+pub returns-in_err-frames : goal.returns-in_err-frames
 unfolding stream_info
-returns-in_default-second c =
-    sym
-    (bind_got_lem (sizes 16) _ _ _ (answer_is sizes_at c.read_sizes-first.ensures c.in-Sizes.is)
-    ∙ bind_short (sizes 24) _ _ _ (answer_is sizes_at c.read_sizes-second.ensures c.in_default-second.is))
+returns-in_err-frames c =
+    goes_on (sizes 16) _ _ _ c.in_ok-blocks.ensures
+    (λ _. ap read_at (exit _ _ c.from_residual-in_err-frames.ensures.1) ∙ refused_first (sizes 24) _ _ _ _ c.in_err-frames.ensures)
 
-pub returns-in_default-fourth : goal.returns-in_default-fourth
+pub returns-in_err-rate : goal.returns-in_err-rate
 unfolding stream_info
-returns-in_default-fourth c =
-    sym
-    (bind_got_lem (sizes 16) _ _ _ (answer_is sizes_at c.read_sizes-first.ensures c.in-Sizes.is)
-    ∙ bind_got_lem (sizes 24) _ _ _ (answer_is sizes_at c.read_sizes-second.ensures c.in-Sizes-second.is)
-    ∙ bind_got_lem rate_channels_and_bits _ _ _ (answer_is format_at c.read_format-third.ensures c.in-Format.is)
-    ∙ bind_short (bits 36) _ _ _ (read_short 36 _ _ (search rules) c.read_bits-fourth.ensures c.in_default-fourth.is))
+returns-in_err-rate c =
+    goes_on (sizes 16) _ _ _ c.in_ok-blocks.ensures
+    (λ _. goes_on (sizes 24) _ _ _ c.in_ok-frames.ensures
+    (λ _. ap read_at (exit _ _ c.from_residual-in_err-rate.ensures.1) ∙ refused_first rate_channels_and_bits _ _ _ _ c.in_err-rate.ensures))
 
-pub returns-in_default-last : goal.returns-in_default-last
+pub returns-in_err-samples : goal.returns-in_err-samples
 unfolding stream_info
-returns-in_default-last c =
-    sym
-    (bind_got_lem (sizes 16) _ _ _ (answer_is sizes_at c.read_sizes-first.ensures c.in-Sizes.is)
-    ∙ bind_got_lem (sizes 24) _ _ _ (answer_is sizes_at c.read_sizes-second.ensures c.in-Sizes-second.is)
-    ∙ bind_got_lem rate_channels_and_bits _ _ _ (answer_is format_at c.read_format-third.ensures c.in-Format.is)
-    ∙ bind_got_lem (bits 36) _ _ _ (read-got 36 _ _ (search rules) c.read_bits-fourth.ensures c.in-Value.is)
-    ∙ bind_short md5 _ _ _ (answer_is md5_at c.read_md5-last.ensures c.in_default-last.is))
+returns-in_err-samples c =
+    goes_on (sizes 16) _ _ _ c.in_ok-blocks.ensures
+    (λ _. goes_on (sizes 24) _ _ _ c.in_ok-frames.ensures
+    (λ _. goes_on rate_channels_and_bits _ _ _ c.in_ok-rate.ensures
+    (λ _. ap read_at (exit _ _ c.from_residual-in_err-samples.ensures.1) ∙ no_number 36 _ _ _ (search rules) _ c.in_err-samples.ensures)))
 
-pub returns-in-Md5 : goal.returns-in-Md5
+pub returns-in_err-md5 : goal.returns-in_err-md5
 unfolding stream_info
-returns-in-Md5 c =
-    sym
-    (bind_got_lem (sizes 16) _ _ _ (answer_is sizes_at c.read_sizes-first.ensures c.in-Sizes.is)
-    ∙ bind_got_lem (sizes 24) _ _ _ (answer_is sizes_at c.read_sizes-second.ensures c.in-Sizes-second.is)
-    ∙ bind_got_lem rate_channels_and_bits _ _ _ (answer_is format_at c.read_format-third.ensures c.in-Format.is)
-    ∙ bind_got_lem (bits 36) _ _ _ (read-got 36 _ _ (search rules) c.read_bits-fourth.ensures c.in-Value.is)
-    ∙ then_done md5 _ _ _ (answer_is md5_at c.read_md5-last.ensures c.in-Md5.is))
+returns-in_err-md5 c =
+    goes_on (sizes 16) _ _ _ c.in_ok-blocks.ensures
+    (λ _. goes_on (sizes 24) _ _ _ c.in_ok-frames.ensures
+    (λ _. goes_on rate_channels_and_bits _ _ _ c.in_ok-rate.ensures
+    (λ _. number 36 _ _ _ (search rules) c.in_ok-samples.ensures
+    (λ _. ap read_at (exit _ _ c.from_residual-in_err-md5.ensures.1) ∙ refused_first md5 _ _ _ _ c.in_err-md5.ensures))))
 
-pub returns-in-Refused : goal.returns-in-Refused
+pub returns : goal.returns
 unfolding stream_info
-returns-in-Refused c =
-    sym
-    (bind_got_lem (sizes 16) _ _ _ (answer_is sizes_at c.read_sizes-first.ensures c.in-Sizes.is)
-    ∙ bind_got_lem (sizes 24) _ _ _ (answer_is sizes_at c.read_sizes-second.ensures c.in-Sizes-second.is)
-    ∙ bind_refusal rate_channels_and_bits _ _ _ c.in-Refused.e (answer_is format_at c.read_format-third.ensures c.in-Refused.is))
+returns c =
+    goes_on (sizes 16) _ _ _ c.in_ok-blocks.ensures
+    (λ _. goes_on (sizes 24) _ _ _ c.in_ok-frames.ensures
+    (λ _. goes_on rate_channels_and_bits _ _ _ c.in_ok-rate.ensures
+    (λ _. number 36 _ _ _ (search rules) c.in_ok-samples.ensures (λ _. goes_on md5 _ _ _ c.in_ok-md5.ensures (λ i. ends _ _ _ i)))))
