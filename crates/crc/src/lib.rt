@@ -46,11 +46,9 @@ fn crc16_six(tables: &[u16; 2048], s: &[u8], from: usize) -> u16
     requires { EightTables 16 0x8005 tables.now × (from + 6 ≤ length s.now) }
     ensures { result ≡ crc_bits 16 0x8005 0 (bits_of_bytes (take 6 (drop from s.now))) }
 {
-    let mut xor: u16 = 0;
-    let mut k = 0;
-    while k < 6 {
+    let mut xor = 0;
+    for k in 0..6 {
         xor ^= crc16_then_zeros(tables, s[from + k], 5 - k);
-        k += 1;
     }
     xor
 }
@@ -67,26 +65,27 @@ fn crc16_eight(tables: &[u16; 2048], sum: u16, s: &[u8], from: usize, ahead: u16
     crc16_then_zeros(tables, first, 7) ^ crc16_then_zeros(tables, second, 6) ^ ahead
 }
 
-// The CRC-16 of a whole slice. The look-ups that do not depend on the sum are made a turn ahead, so that they do not wait
-// for it.
+// The CRC-16 of a whole slice, in turns of eight bytes. The look-ups that do not depend on the sum are made a turn ahead,
+// so that they do not wait for it. So the last turn is the one that leaves fewer than sixteen bytes; what it leaves is
+// added byte by byte.
 fn crc16_by_tables(tables: &[u16; 2048], s: &[u8]) -> u16
     requires { EightTables 16 0x8005 tables.now }
     ensures { result ≡ crc16_of (bits_of_bytes s.now) }
 {
+    let turns = (s.len() / 8).saturating_sub(1);
     let mut sum: u16 = 0;
-    let mut ahead: u16 = 0;
-    let mut i = 0;
-    if 8 <= s.len() {
-        ahead = crc16_six(tables, s, 2);
+    let mut ahead = if 8 <= s.len() {
+        crc16_six(tables, s, 2)
+    } else {
+        0
+    };
+    for turn in 0..turns {
+        let from = 8 * turn;
+        sum = crc16_eight(tables, sum, s, from, ahead);
+        ahead = crc16_six(tables, s, from + 10);
     }
-    while 16 <= s.len() - i {
-        sum = crc16_eight(tables, sum, s, i, ahead);
-        ahead = crc16_six(tables, s, i + 10);
-        i += 8;
-    }
-    while i < s.len() {
-        sum = crc16_byte(tables, sum, s[i]);
-        i += 1;
+    for b in &s[8 * turns..] {
+        sum = crc16_byte(tables, sum, *b);
     }
     sum
 }
@@ -97,10 +96,8 @@ pub fn crc8(s: &[u8]) -> u8
 {
     let table = CRC8_TABLE;
     let mut sum: u8 = 0;
-    let mut i = 0;
-    while i < s.len() {
-        sum = crc8_byte(&table, sum, s[i]);
-        i += 1;
+    for b in s {
+        sum = crc8_byte(&table, sum, *b);
     }
     sum
 }

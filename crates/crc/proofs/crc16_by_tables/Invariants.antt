@@ -1,6 +1,6 @@
 -- `crc::crc16_by_tables` meets its contract. In the first loop `ahead` is the sum of the last six of the next eight
 -- bytes, where there are eight more. Assumes nothing.
-use Prim.Native.Nat.{◌+◌, ◌-◌, ◌≤◌}
+use Prim.Native.Nat.{◌+◌, ◌*◌, ◌≤◌}
 use mathlib.Core.Path.{◌≡◌}
 use lib.ListN.{length, take, drop}
 use Rattle.rfc9639.specs.CheckSums.{crc_bits}
@@ -8,14 +8,10 @@ use Rattle.reading.specs.Bytes.{bits_of_bytes}
 use Rattle.crc.proofs.SummedBytes.{Summed}
 use Rattle.crc.proofs.crc16_by_tables.Given as goal
 
-abbrev pub invariant-loop-i : goal.invariant-loop-i
-invariant-loop-i l = Summed 16 0x8005 l.s l.sum l.i × (l.i + 8 ≤ length l.s → l.ahead ≡ crc_bits 16 0x8005 0 (bits_of_bytes (take 6 (drop (l.i + 2) l.s))))
+abbrev pub invariant-loop-turn : goal.invariant-loop-turn
+invariant-loop-turn l =
+    Summed 16 0x8005 l.s l.sum (8 * l.turn)
+    × (8 * l.turn + 8 ≤ length l.s → l.ahead ≡ crc_bits 16 0x8005 0 (bits_of_bytes (take 6 (drop (8 * l.turn + 2) l.s))))
 
-abbrev pub decreases-loop-i : goal.decreases-loop-i
-decreases-loop-i l = length l.s - l.i
-
-abbrev pub invariant-loop-i-2 : goal.invariant-loop-i-2
-invariant-loop-i-2 l = Summed 16 0x8005 l.s l.sum l.i
-
-abbrev pub decreases-loop-i-2 : goal.decreases-loop-i-2
-decreases-loop-i-2 l = length l.s - l.i
+abbrev pub invariant-loop-b : goal.invariant-loop-b
+invariant-loop-b l = Summed 16 0x8005 l.s l.sum (8 * l.turns + l.b-index)
