@@ -7,100 +7,53 @@ ghost use Rattle.rfc9639.specs.Integers.{low, wrapped};
 ghost use Rattle.probe_records.specs.LittleEndian.{little};
 ghost use Rattle.rfc9639.specs.Stream.{first_known, first_number};
 
-use rfc9639::FirstSample;
-
-// The low byte.
-fn low_byte(v: u64) -> u8
-    ensures { result ≡ v % 256 }
-{
-    (v % 256) as u8
-}
-
-// Whether the number of a frame's first sample is known: 1, or 0.
-fn first_known(first: FirstSample) -> u64
-    ensures { result ≡ first_known first }
-{
-    match first {
-        FirstSample::Unknown => 0,
-        FirstSample::Known(_) => 1,
-    }
-}
-
-// The number of a frame's first sample, and 0 where it is unknown.
-fn first_number(first: FirstSample) -> u64
-    ensures { result ≡ first_number first }
-{
-    match first {
-        FirstSample::Unknown => 0,
-        FirstSample::Known(n) => n,
-    }
-}
-
-// An answer of the reader: its number, the bytes consumed, whether the number of the first sample is known, that number,
-// the channels, the bits and the block size.
+// An answer of the reader: its number, the bytes consumed, whether the number of the first sample is known, that number
+// or 0, the channels, the bits and the block size.
 pub fn answer_bytes(
     number: u8,
     consumed: u64,
-    first: FirstSample,
+    first: Option<u64>,
     channels: u64,
     bits: u64,
     size: u64,
 ) -> [u8; 18]
     ensures { result ≡ number ∷ (little 4 consumed ++ (little 1 (first_known first) ++ (little 8 (first_number first) ++ (little 1 channels ++ (little 1 bits ++ little 2 size))))) }
 {
-    let known = first_known(first);
-    let start = first_number(first);
-    [
-        number,
-        low_byte(consumed),
-        low_byte(consumed / 256),
-        low_byte(consumed / 256 / 256),
-        low_byte(consumed / 256 / 256 / 256),
-        low_byte(known),
-        low_byte(start),
-        low_byte(start / 256),
-        low_byte(start / 256 / 256),
-        low_byte(start / 256 / 256 / 256),
-        low_byte(start / 256 / 256 / 256 / 256),
-        low_byte(start / 256 / 256 / 256 / 256 / 256),
-        low_byte(start / 256 / 256 / 256 / 256 / 256 / 256),
-        low_byte(start / 256 / 256 / 256 / 256 / 256 / 256 / 256),
-        low_byte(channels),
-        low_byte(bits),
-        low_byte(size),
-        low_byte(size / 256),
-    ]
+    let mut bytes = [0; 18];
+    bytes[0] = number;
+    bytes[1..5].copy_from_slice(&consumed.to_le_bytes()[..4]);
+    bytes[5] = first.is_some() as u8;
+    bytes[6..14].copy_from_slice(&first.unwrap_or(0).to_le_bytes());
+    bytes[14] = (channels % 256) as u8;
+    bytes[15] = (bits % 256) as u8;
+    bytes[16..].copy_from_slice(&size.to_le_bytes()[..2]);
+    bytes
 }
 
 // The four low bytes of a number.
 pub fn four_bytes(v: u64) -> [u8; 4]
     ensures { result ≡ little 4 v }
 {
-    [
-        low_byte(v),
-        low_byte(v / 256),
-        low_byte(v / 256 / 256),
-        low_byte(v / 256 / 256 / 256),
-    ]
+    ((v % 0x1_0000_0000) as u32).to_le_bytes()
 }
 
 // The four bytes of a sample.
 pub fn sample_bytes(x: i32) -> [u8; 4]
     ensures { result ≡ little 4 (low 32 x) }
 {
-    four_bytes(signed::low_bits(x as i64, 32))
+    x.to_le_bytes()
 }
 
 // The number in four bytes.
 pub fn number_from_bytes(a: u8, b: u8, c: u8, d: u8) -> u64
     ensures { result ≡ a + 256 * (b + 256 * (c + 256 * d)) }
 {
-    a as u64 + 256 * (b as u64 + 256 * (c as u64 + 256 * (d as u64)))
+    u32::from_le_bytes([a, b, c, d]) as u64
 }
 
 // The sample in four bytes.
 pub fn sample_from_bytes(a: u8, b: u8, c: u8, d: u8) -> i32
     ensures { result ≡ wrapped 32 (pos (a + 256 * (b + 256 * (c + 256 * d)))) }
 {
-    number::low32(signed::sign_extend(number_from_bytes(a, b, c, d), 32))
+    i32::from_le_bytes([a, b, c, d])
 }

@@ -1,15 +1,24 @@
--- `sample_bytes` meets its contract: the four bytes of the low 32 bits. Assumes nothing.
-use mathlib.Core.Path.{ap, ◌∙◌}
-use Rattle.rfc9639.proofs.MachineIntegers.{widened, widen_fits}
-use Rattle.signed.specs.Extend.{low_bits}
+-- `sample_bytes` meets its contract. Assumes nothing.
+use Prim.Native.Nat.{ℕ}
+use native.Mathlib.Nat.{mod-eq_of_lt}
+use native.Mathlib.Omega.{arith}
+use mathlib.Core.Path.{◌≡◌, ap, sym, ◌∙◌}
+use lib.IntN.{ℤ}
+use mir.Facts.{Fits-of_z, to_z-of_z}
+use mir.Syntax.{w32}
+use mir.Val.{SFits, of_z}
+use Rattle.std.specs.Int.{to_le_bytes}
+use Rattle.rfc9639.specs.Integers.{low}
+use Rattle.rfc9639.proofs.Widths.{low_of_congruent}
+use Rattle.rfc9639.proofs.MachineIntegers.{of_z_congruent}
 use Rattle.probe_records.specs.LittleEndian.{little}
 use Rattle.probe_records.proofs.sample_bytes.Goals as goal
 
-pub overflow_cast-x : goal.overflow_cast-x
-overflow_cast-x c = widen_fits c.ranges.x
+four : (n : ℕ) → to_le_bytes w32 n ≡ little 4 n
+four n = grind arith
+
+all : {x : ℤ} → SFits w32 x → of_z w32 x ≡ low 32 x
+all {x} f = sym (mod-eq_of_lt (Fits-of_z f).fits) ∙ low_of_congruent 32 (of_z_congruent f)
 
 pub returns : goal.returns
-unfolding low_bits
-returns c =
-    c.four_bytes.ensures
-    ∙ ap (little 4) (c.low_bits.ensures ∙ ap (low_bits 32) (widened c.ranges.x))
+returns c = c.to_le_bytes.ensures ∙ ap (to_le_bytes w32) (ap (of_z w32) (to_z-of_z c.ranges.x) ∙ all c.ranges.x) ∙ four _
