@@ -1,5 +1,5 @@
 -- The longest length: no frame is longer, so such an output is never refused by 13; 0 means no frame. Assumes nothing.
-use Prim.Native.Nat.{ℕ, ◌*◌, ◌≤◌, ◌<◌}
+use Prim.Native.Nat.{ℕ, ◌≤◌}
 use native.Mathlib.Omega.{arith}
 use mathlib.Core.Path.{◌≡◌, refl, subst}
 use mathlib.Core.Bool.{Bool, true, false}
@@ -8,33 +8,23 @@ use borrow.Author.Tests.{le-leb}
 use lib.IntN.{ℤ}
 use lib.ListN.{length}
 use Rattle.rfc9639.specs.declared.FrameSetting.{FrameSetting}
-use Rattle.rfc9639.specs.HeaderCodes.{largest_block_size, assignment, channel_count}
 use Rattle.rfc9639.specs.Write.{frame_bytes, frame_bound, allowed, all_fit, unwritten, write}
 use Rattle.rfc9639.proofs.AllowedSettings.{allowed_facts}
 use Rattle.rfc9639.proofs.LengthBound.{within-bound}
 use Rattle.frame_limits.specs.Longest.{longest_of}
+use Rattle.frame_limits.proofs.SettingTests.{wanted}
 
 module _ (set : FrameSetting) where
-  abbrev pub wanted : ℕ
-  wanted = channel_count (assignment set.channels) * set.size
-
-  pub longest-some : allowed set wanted ≡ true → longest_of set ≡ frame_bound set
+  pub longest-some : allowed set (wanted set) ≡ true → longest_of set ≡ frame_bound set
   unfolding longest_of
   longest-some e = rw e
 
-  pub longest-none : allowed set wanted ≡ false → longest_of set ≡ 0
+  pub longest-none : allowed set (wanted set) ≡ false → longest_of set ≡ 0
   unfolding longest_of
   longest-none e = rw e
 
-  pub too_large : largest_block_size < set.size → allowed set wanted ≡ false
-  too_large h = go (allowed set wanted) refl
-    where
-      go : (t : Bool) → allowed set wanted ≡ t → t ≡ false
-      go true e = absurd (omega (arith, (allowed_facts set wanted e).most))
-      go false e = refl
-
   module _ (xs : List ℤ) where
-    allowed-wanted : allowed set (length xs) ≡ true → allowed set wanted ≡ true
+    allowed-wanted : allowed set (length xs) ≡ true → allowed set (wanted set) ≡ true
     allowed-wanted e = subst (λ n. allowed set n ≡ true) (allowed_facts set (length xs) e).samples e
 
     pub never-longer : allowed set (length xs) ≡ true → length (frame_bytes set xs) ≤ longest_of set

@@ -1,2 +1,3 @@
 -- How long a frame can be.
 pub mod Longest
+pub mod Private

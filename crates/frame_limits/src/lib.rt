@@ -6,6 +6,7 @@ ghost use Rattle.std.specs.Prelude.{◌≡◌, ◌^◌, ◌≤◌};
 ghost use Rattle.rfc9639.specs.HeaderCodes.{largest_block_size, assignment, channel_count};
 ghost use Rattle.rfc9639.specs.Write.{writable, number_limit, allowed, lanes as lanes_of, most_bits};
 ghost use Rattle.frame_limits.specs.Longest.{longest_of};
+ghost use Rattle.frame_limits.specs.Private.{in_range};
 
 use rfc9639::{FrameSetting, LARGEST_BLOCK_SIZE, LARGEST_FRAME_NUMBER, LARGEST_SAMPLE_NUMBER};
 
@@ -17,72 +18,56 @@ pub fn channels_of_code(code: u32) -> usize
 }
 
 // The bits of a sample that can be written.
+#[tactic(auto, unfolding(rfc9639::specs::Write::writable))]
 fn is_writable(bits: u32) -> bool
     ensures { result ≡ writable bits }
 {
-    if bits == 8 {
-        return true;
-    }
-    if bits == 12 {
-        return true;
-    }
-    if bits == 16 {
-        return true;
-    }
-    if bits == 20 {
-        return true;
-    }
-    bits == 24
+    matches!(bits, 8 | 12 | 16 | 20 | 24)
 }
 
 // The largest number: a frame's where the blocking bit is 0, else a sample's.
+#[tactic(auto, unfolding(rfc9639::specs::Write::number_limit, rfc9639::specs::HeaderCodes::largest_frame_number, rfc9639::specs::HeaderCodes::largest_sample_number))]
 fn number_limit(blocking: u32) -> u64
     ensures { result ≡ number_limit blocking }
 {
     if blocking == 0 {
-        return LARGEST_FRAME_NUMBER;
+        LARGEST_FRAME_NUMBER
+    } else {
+        LARGEST_SAMPLE_NUMBER
     }
-    LARGEST_SAMPLE_NUMBER
+}
+
+// Whether each setting is one that a frame can have.
+fn is_in_range(set: FrameSetting) -> bool
+    ensures { result ≡ in_range set }
+{
+    set.channels <= 10
+        && is_writable(set.bits)
+        && set.blocking <= 1
+        && 0 < set.size
+        && set.size <= LARGEST_BLOCK_SIZE
+        && set.number <= number_limit(set.blocking)
 }
 
 // Whether a frame can have these settings; `count` is the samples of all channels together.
 pub fn is_allowed(set: FrameSetting, count: usize) -> bool
     ensures { result ≡ allowed set count }
 {
-    let channels = set.channels;
-    let bits = set.bits;
-    let blocking = set.blocking;
-    let number = set.number;
-    let size = set.size;
-    if 10 < channels {
-        return false;
-    }
-    if !is_writable(bits) {
-        return false;
-    }
-    if 1 < blocking {
-        return false;
-    }
-    if size == 0 {
-        return false;
-    }
-    if LARGEST_BLOCK_SIZE < size {
-        return false;
-    }
-    if number_limit(blocking) < number {
-        return false;
-    }
-    count == channels_of_code(channels) * size
+    is_in_range(set) && count == channels_of_code(set.channels) * set.size
 }
 
 // The most bits that a frame's subframes take. A side channel is one bit wider.
-fn most_bits(channels: u32, bits: u32, size: usize) -> usize
-    requires { (bits ≤ 24) × (size ≤ largest_block_size) }
-    ensures { (result ≡ most_bits bits size (lanes_of (assignment channels))) × (result ≤ 2 ^ 24) }
+fn most_bits(set: FrameSetting) -> usize
+    requires { (set.bits ≤ 24) × (set.size ≤ largest_block_size) }
+    ensures { (result ≡ most_bits set.bits set.size (lanes_of (assignment set.channels))) × (result ≤ 2 ^ 24) }
 {
-    let each = 8 + size * bits as usize;
-    let all = channels_of_code(channels) * each;
-    if channels < 8 { all } else { all + size }
+    let each = 8 + set.size * set.bits as usize;
+    let all = channels_of_code(set.channels) * each;
+    if set.channels < 8 {
+        all
+    } else {
+        all + set.size
+    }
 }
 
 // The length that no frame with these settings exceeds, in bytes; 0 where no frame can have them. An output of that
@@ -97,13 +82,9 @@ pub fn longest(channels: u32, bits: u32, blocking: u32, number: u64, size: usize
         number,
         size,
     };
-    // So the count fits a usize.
-    if LARGEST_BLOCK_SIZE < size {
-        return 0;
+    if is_in_range(set) {
+        16 + (most_bits(set) + 7) / 8
+    } else {
+        0
     }
-    let count = channels_of_code(channels) * size;
-    if !is_allowed(set, count) {
-        return 0;
-    }
-    16 + (most_bits(channels, bits, size) + 7) / 8
 }

@@ -21,12 +21,12 @@ overflow_mul-all c = record { fits = omega (arith, within _ _ _ c.requires.0 c.r
 pub overflow_add-result : goal.overflow_add-result
 overflow_add-result c = record { fits = omega (arith, within _ _ _ c.requires.0 c.requires.1 c.channels_of_code.ensures) }
 
-pub returns-then-channels-lt8 : goal.returns-then-channels-lt8
-returns-then-channels-lt8 c =
-    let s = c.args in
-    (ap (λ m. m * (8 + s.size * s.bits)) c.channels_of_code.ensures ∙ most_independent s.bits s.size _ c.if-channels-lt8.true, omega (arith, within _ _ _ c.requires.0 c.requires.1 c.channels_of_code.ensures))
+pub returns-then-set-lt8 : goal.returns-then-set-lt8
+returns-then-set-lt8 c =
+    let s = c.args.set in
+    (ap (λ m. m * (8 + s.size * s.bits)) c.channels_of_code.ensures ∙ most_independent s.bits s.size _ c.if-set-lt8.true, omega (arith, within _ _ _ c.requires.0 c.requires.1 c.channels_of_code.ensures))
 
-pub returns-else-channels-lt8 : goal.returns-else-channels-lt8
-returns-else-channels-lt8 c =
-    let s = c.args in
-    (ap (λ m. m * (8 + s.size * s.bits) + s.size) c.channels_of_code.ensures ∙ most-pair s.bits s.size _ c.if-channels-lt8.false, omega (arith, within _ _ _ c.requires.0 c.requires.1 c.channels_of_code.ensures))
+pub returns-else-set-lt8 : goal.returns-else-set-lt8
+returns-else-set-lt8 c =
+    let s = c.args.set in
+    (ap (λ m. m * (8 + s.size * s.bits) + s.size) c.channels_of_code.ensures ∙ most-pair s.bits s.size _ c.if-set-lt8.false, omega (arith, within _ _ _ c.requires.0 c.requires.1 c.channels_of_code.ensures))
