@@ -5,67 +5,37 @@
 // After a refusal all but the number are zero.
 #![tactic(auto)]
 
-ghost use Rattle.std.specs.Prelude.{◌≤◌, length};
-
-use rfc9639::{Md5, StreamInfo};
-use stream::StreamRead;
+use rfc9639::StreamInfo;
 
 // The numbers of standard input and standard output.
 const STDIN: i32 = 0;
 
 const STDOUT: i32 = 1;
 
-// The low bytes of a number, at most four.
-fn write_number(v: u64, bytes: usize)
-    requires { bytes ≤ 4 }
-{
-    let all = probe_records::four_bytes(v);
-    io::write_all(STDOUT, &all[..bytes]);
-}
-
-fn write_md5(md5: Md5) {
-    let bytes = stream::md5_bytes(md5);
-    io::write_all(STDOUT, &bytes);
-}
-
 fn write_header(info: StreamInfo, consumed: usize) {
-    let md5 = info.md5;
-    write_number(0, 1);
-    write_number(consumed as u64, 4);
-    write_number(info.blocks.smallest as u64, 2);
-    write_number(info.blocks.largest as u64, 2);
-    write_number(info.frames.smallest as u64, 4);
-    write_number(info.frames.largest as u64, 4);
-    write_number(info.rate as u64, 4);
-    write_number(info.channels as u64, 1);
-    write_number(info.bits as u64, 1);
-    write_number(info.samples, 4);
-    write_number(info.samples / 0x1_0000_0000, 4);
-    write_md5(md5);
+    io::write_all(STDOUT, &[0]);
+    io::write_all(STDOUT, &consumed.to_le_bytes()[..4]);
+    io::write_all(STDOUT, &info.blocks.smallest.to_le_bytes()[..2]);
+    io::write_all(STDOUT, &info.blocks.largest.to_le_bytes()[..2]);
+    io::write_all(STDOUT, &info.frames.smallest.to_le_bytes());
+    io::write_all(STDOUT, &info.frames.largest.to_le_bytes());
+    io::write_all(STDOUT, &info.rate.to_le_bytes());
+    io::write_all(STDOUT, &info.channels.to_le_bytes()[..1]);
+    io::write_all(STDOUT, &info.bits.to_le_bytes()[..1]);
+    io::write_all(STDOUT, &info.samples.to_le_bytes());
+    io::write_all(STDOUT, &stream::md5_bytes(info.md5));
 }
 
 fn write_refusal(number: u8) {
-    let zeros = [0u8; 46];
-    write_number(number as u64, 1);
-    io::write_all(STDOUT, &zeros);
-}
-
-fn probe(bytes: &[u8]) {
-    let answer = stream::read_stream_header(bytes);
-    match answer {
-        StreamRead::Header(info, consumed) => write_header(info, consumed),
-        StreamRead::Refused(e) => write_refusal(error::number_of(e)),
-    }
-}
-
-fn run(input: &[u8], n: usize)
-    requires { n ≤ length input.now }
-{
-    probe(&input[..n]);
+    io::write_all(STDOUT, &[number]);
+    io::write_all(STDOUT, &[0; 46]);
 }
 
 fn main() {
-    let mut input = [0u8; 65536];
+    let mut input = [0; 65536];
     let n = io::read_full(STDIN, &mut input);
-    run(&input, n);
+    match stream::read_stream_header(&input[..n]) {
+        Ok((info, consumed)) => write_header(info, consumed),
+        Err(e) => write_refusal(e.into()),
+    }
 }

@@ -5,9 +5,9 @@
 // whole output. A room above 32,768 is answered by 11, a length of 0, and no bytes.
 #![tactic(auto)]
 
-ghost use Rattle.std.specs.Prelude.{◌≡◌, ◌*◌, ◌≤◌, ◌+◌, length};
+ghost use Rattle.std.specs.Prelude.{◌≡◌, ◌*◌, ◌≤◌, length};
 
-use frame_writer::WriteAnswer;
+use probe_records::{four_bytes, number_from_bytes, sample_from_bytes};
 
 // The numbers of standard input and standard output.
 const STDIN: i32 = 0;
@@ -15,96 +15,62 @@ const STDIN: i32 = 0;
 const STDOUT: i32 = 1;
 
 fn write_head(number: u8, length: u64) {
-    let head = [
-        number,
-        (length % 256) as u8,
-        (length / 256 % 256) as u8,
-        (length / 256 / 256 % 256) as u8,
-        (length / 256 / 256 / 256 % 256) as u8,
-    ];
-    io::write_all(STDOUT, &head);
+    io::write_all(STDOUT, &[number]);
+    io::write_all(STDOUT, &four_bytes(length));
 }
 
-fn write_answer(answer: WriteAnswer) {
-    match answer {
-        WriteAnswer::Frame(n) => write_head(0, n as u64),
-        WriteAnswer::Refused(e) => write_head(error::number_of(e), 0),
-    }
-}
-
-fn fill(out: &mut [u8], byte: u8) {
-    let mut i = 0;
-    while i < out.len() {
-        out[i] = byte;
-        i += 1;
-    }
+// The number in the four bytes from a place on.
+fn number_at(input: &[u8; 65556], at: usize) -> usize
+    requires { at ≤ 65552 }
+{
+    number_from_bytes(input[at], input[at + 1], input[at + 2], input[at + 3]) as usize
 }
 
 fn decode(bytes: &[u8], samples: &mut [i32])
     requires { 4 * length samples.old ≤ length bytes.now }
 {
-    let mut i = 0;
-    while i < samples.len() {
-        samples[i] = probe_records::sample_from_bytes(
-            bytes[4 * i],
-            bytes[4 * i + 1],
-            bytes[4 * i + 2],
-            bytes[4 * i + 3],
-        );
-        i += 1;
+    for (sample, b) in samples.iter_mut().zip(bytes.chunks_exact(4)) {
+        *sample = sample_from_bytes(b[0], b[1], b[2], b[3]);
     }
 }
 
-// The frame's or sample's number, in eight bytes.
-fn setting_number(input: &[u8]) -> u64
-    requires { length input.now ≡ 65556 }
-{
-    let low = probe_records::number_from_bytes(input[3], input[4], input[5], input[6]);
-    let high = probe_records::number_from_bytes(input[7], input[8], input[9], input[10]);
-    high % 0x1_0000_0000 * 0x1_0000_0000 + low % 0x1_0000_0000
-}
-
-// How many complete samples follow the settings in n bytes.
-fn count_of(n: usize) -> usize
+fn run(input: &[u8; 65556], n: usize, samples: &mut [i32; 16384], out: &mut [u8; 32768])
     requires { n ≤ 65556 }
-    ensures { result ≤ 16384 }
 {
-    if n < 20 { 0 } else { (n - 20) / 4 }
-}
-
-fn run(input: &[u8], n: usize, samples: &mut [i32], out: &mut [u8])
-    requires { (length input.now ≡ 65556) × (n ≤ 65556) × (length samples.old ≡ 16384) × (length out.old ≡ 32768) }
-{
-    let size = probe_records::number_from_bytes(
-        input[11], input[12], input[13], input[14],
-    ) as usize;
-    let room = probe_records::number_from_bytes(
-        input[15], input[16], input[17], input[18],
-    ) as usize;
+    let number = u64::from_le_bytes([
+        input[3], input[4], input[5], input[6], input[7], input[8], input[9], input[10],
+    ]);
+    let size = number_at(input, 11);
+    let room = number_at(input, 15);
     if out.len() < room {
         write_head(11, 0);
         return;
     }
-    let count = count_of(n);
-    fill(&mut out[..room], input[19]);
-    decode(&input[20..], &mut samples[..count]);
+    let out = &mut out[..room];
+    out.fill(input[19]);
+    // The samples that are there whole.
+    let samples = &mut samples[..n.saturating_sub(20) / 4];
+    decode(&input[20..], samples);
     let answer = frame_writer::write_frame(
-        &samples[..count],
+        samples,
         input[0] as u32,
         input[1] as u32,
         input[2] as u32,
-        setting_number(input),
+        number,
         size,
-        &mut out[..room],
+        out,
     );
-    write_answer(answer);
-    io::write_all(STDOUT, &out[..room]);
+    match answer {
+        Ok(length) => write_head(0, length as u64),
+        Err(e) => write_head(e.into(), 0),
+    }
+    io::write_all(STDOUT, out);
 }
 
 fn main() {
-    let mut input = [0u8; 65556];
-    let mut samples = [0i32; 16384];
-    let mut out = [0u8; 32768];
+    let mut input = [0; 65556];
+    let mut samples = [0; 16384];
+    let mut out = [0; 32768];
     let n = io::read_full(STDIN, &mut input);
     run(&input, n, &mut samples, &mut out);
 }
