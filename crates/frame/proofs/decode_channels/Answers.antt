@@ -7,7 +7,8 @@ use Rattle.rfc9639.specs.declared.FrameHeader.{FrameHeader}
 use Rattle.rfc9639.specs.HeaderCodes.{channel_count}
 use Rattle.rfc9639.specs.Header.{sample_count}
 use Rattle.rfc9639.specs.Frame.{widths}
-use Rattle.frame.proofs.FrameBody.{length-widths, width_few, begin, part-fits, part-back, step, stops, end}
+use Rattle.subframe.proofs.SliceParts.{samples_stop}
+use Rattle.frame.proofs.FrameBody.{length-widths, width_few, begin, part-fits, step, stops, end}
 use Rattle.frame.proofs.decode_channels.Goals as goal
 
 -- as many widths as channels
@@ -27,38 +28,33 @@ loop-channel-init c =
     let h = c.args.h in
     begin _ _ _ (c.requires.2 ∙ ap (λ m. m * h.size) (sym (length-widths h.channels h.bits)))
 
-pub overflow_add-end : goal.overflow_add-end
-overflow_add-end c = omega (arith, part-fits c.loop-channel.invariant (wide c.args.h c.channel_count-count.ensures c.loop-channel-test.true))
+pub overflow_mul-start : goal.overflow_mul-start
+overflow_mul-start c = omega (arith, part-fits c.loop-channel.invariant (wide c.args.h c.channel_count-channel-end.ensures c.loop-channel-test.true))
+
+pub overflow_add-start : goal.overflow_add-start
+overflow_add-start c = omega (arith, part-fits c.loop-channel.invariant (wide c.args.h c.channel_count-channel-end.ensures c.loop-channel-test.true))
 
 pub width_of-width-requires : goal.width_of-width-requires
-width_of-width-requires c = (c.requires.1, omega (arith, c.channel_count-count.ensures))
+width_of-width-requires c = (c.requires.1, omega (arith, c.channel_count-channel-end.ensures))
 
 pub offset_bounds-out-start : goal.offset_bounds-out-start
-offset_bounds-out-start c = omega (arith, part-fits c.loop-channel.invariant (wide c.args.h c.channel_count-count.ensures c.loop-channel-test.true))
+offset_bounds-out-start c = omega (arith, part-fits c.loop-channel.invariant (wide c.args.h c.channel_count-channel-end.ensures c.loop-channel-test.true))
 
 pub slice_bounds-decode-end : goal.slice_bounds-decode-end
-slice_bounds-decode-end c = part-fits c.loop-channel.invariant (wide c.args.h c.channel_count-count.ensures c.loop-channel-test.true)
+slice_bounds-decode-end c = part-fits c.loop-channel.invariant (wide c.args.h c.channel_count-channel-end.ensures c.loop-channel-test.true)
 
 pub loop-channel-preserved : goal.loop-channel-preserved
 loop-channel-preserved c =
-    step c.loop-channel.invariant (wide c.args.h c.channel_count-count.ensures c.loop-channel-test.true) c.width_of-width.ensures
-    (few c.args.h c.requires.1 c.channel_count-count.ensures c.loop-channel-test.true) c.decode-decoded.result c.decode-decoded.new.out c.decode-decoded.ensures.answer
-    c.in-Done.is c.decode-decoded.auto.out
+    step c.loop-channel.invariant (wide c.args.h c.channel_count-channel-end.ensures c.loop-channel-test.true) c.width_of-width.ensures
+    (few c.args.h c.requires.1 c.channel_count-channel-end.ensures c.loop-channel-test.true) c.in_ok-p.ensures.answer c.decode.auto.out
 
-pub shape_of-out-in-Refused : goal.shape_of-out-in-Refused
-shape_of-out-in-Refused c =
-    part-back c.loop-channel.invariant (wide c.args.h c.channel_count-count.ensures c.loop-channel-test.true) c.decode-decoded.new.out c.decode-decoded.auto.out
-
-pub returns-in-Refused : goal.returns-in-Refused
-returns-in-Refused c =
-    stops c.loop-channel.invariant (wide c.args.h c.channel_count-count.ensures c.loop-channel-test.true) c.width_of-width.ensures
-    (few c.args.h c.requires.1 c.channel_count-count.ensures c.loop-channel-test.true) c.decode-decoded.result c.decode-decoded.new.out c.decode-decoded.ensures.answer
-    c.in-Refused.is
-
-pub shape_of-out : goal.shape_of-out
-shape_of-out c = c.loop-channel.invariant.long
+pub returns-in_err-p : goal.returns-in_err-p
+returns-in_err-p c =
+    samples_stop _ _ c.from_residual.ensures.1
+    (stops c.loop-channel.invariant (wide c.args.h c.channel_count-channel-end.ensures c.loop-channel-test.true) c.width_of-width.ensures
+    (few c.args.h c.requires.1 c.channel_count-channel-end.ensures c.loop-channel-test.true) _ c.in_err-p.ensures.answer) _
 
 pub returns : goal.returns
 returns c =
-    let count = widths-count c.args.h c.channel_count-count.ensures in
-    end c.loop-channel.invariant (omega (arith, count, c.channel_count-count.ensures, c.requires.0)) (omega (arith, count))
+    let count = widths-count c.args.h c.channel_count-channel-end.ensures in
+    end c.loop-channel.invariant (omega (arith, count, c.channel_count-channel-end.ensures, c.requires.0)) (omega (arith, count))

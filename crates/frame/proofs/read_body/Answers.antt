@@ -14,11 +14,11 @@ use Rattle.reading.specs.Places.{position, got_at, short_at, place_of, run_at}
 use Rattle.reading.proofs.ByteRuns.{stays_in, and_fst}
 use Rattle.reading.proofs.BitsTaken.{bits-there, bits-short}
 use Rattle.reading.specs.declared.Place.{Place}
-use Rattle.subframe.specs.declared.Decoded.{Decoded}
+use Rattle.std.specs.Prelude.{Result, Some}
+use Rattle.error.specs.declared.Refusal.{Refusal}
 use Rattle.rfc9639.specs.HeaderCodes.{channel_count}
 use Rattle.rfc9639.specs.declared.FrameHeader.{FrameHeader}
 use Rattle.rfc9639.specs.declared.Settings.{Settings}
-use Rattle.rfc9639.specs.declared.StreamBlock.{StreamBlock}
 use Rattle.rfc9639.specs.Header.{header, sample_count}
 use Rattle.rfc9639.specs.Stream.{in_range, bits_in_range, possible, completed, bits_read}
 use Rattle.rfc9639.specs.Frame.{body}
@@ -92,13 +92,13 @@ returns-then-s-at c =
 pub first_sample-first-requires : goal.first_sample-first-requires
 first_sample-first-requires c =
     let f = sound c.args.set c.args.s.now (sym c.requires.1) c.complete-h.ensures (sym c.bits_read.ensures ∙ c.if-not-bits_read.false) in
-    search (rules, first_fits c.args.set.block _ (in_range_lem c.args.set c.requires.0) f.number, first_fits (StreamBlock.Known c.complete-h.result.size) _ (size-in_range f.some f.size) f.number)
+    search (rules, first_fits c.args.set.block _ (in_range_lem c.args.set c.requires.0) f.number, first_fits (Some c.complete-h.result.size) _ (size-in_range f.some f.size) f.number)
 
 pub slice_bounds-decode_body-end-2 : goal.slice_bounds-decode_body-end-2
 slice_bounds-decode_body-end-2 c = sym (length-take-le (c.channel_count-channels.result * c.complete-h.result.size) c.args.out.now c.if-out-count.false)
 
-pub decode_body-decoded-requires : goal.decode_body-decoded-requires
-decode_body-decoded-requires c =
+pub decode_body-requires : goal.decode_body-requires
+decode_body-requires c =
     let f = sound c.args.set c.args.s.now (sym c.requires.1) c.complete-h.ensures (sym c.bits_read.ensures ∙ c.if-not-bits_read.false) in
     (f.mono, f.bits, part_is c.complete-h.result c.channel_count-channels.ensures c.args.out.now c.if-out-count.false)
 
@@ -106,25 +106,25 @@ stands : (h : FrameHeader) {channels : ℕ} → channels ≡ channel_count h.cha
 stands h counted out front = ap (λ n. front ++ drop n out) (count_is h counted)
 
 -- a body whose decoding has begun: what was lent to it is put back
-module _ (h : FrameHeader) {channels : ℕ} (counted : channels ≡ channel_count h.channels) (s : List ℕ) (at : Place) (out : List ℤ) (fits : channels * h.size ≤ length out) {r : Decoded} (front : List ℤ) where
+module _ (h : FrameHeader) {channels : ℕ} (counted : channels ≡ channel_count h.channels) (s : List ℕ) (at : Place) (out : List ℤ) (fits : channels * h.size ≤ length out) {r : Result Place Refusal} (front : List ℤ) where
   left : Left (run_at (body h) s at) (length (take (channels * h.size) out)) r front → Left (run_at (body h) s at) (sample_count h) r front
   left l = subst (λ n. Left (run_at (body h) s at) n r front) (part_is h counted out fits) l
 
-pub returns-in-Done : goal.returns-in-Done
-returns-in-Done c =
+pub returns : goal.returns
+returns c =
     let h = c.complete-h.result in
     let counted = c.channel_count-channels.ensures in
-    let front = c.decode_body-decoded.new.out in
+    let front = c.decode_body.new.out in
     body-read c.args.set c.args.s.now c.args.out.now c.requires.0 (sym c.requires.1) c.complete-h.ensures (sym c.bits_read.ensures ∙ c.if-not-bits_read.false) (sym c.bits_fit.ensures ∙ c.if-not-bits_fit.false) (sym c.block_fits.ensures ∙ c.if-not-block_fits.false)
-    (omega (arith, count_is h counted, c.if-out-count.false)) (first_bit c.args.s.now c.args.at (sym c.requires.1) c.if-s-at.false).1
-    (left h counted c.args.s.now c.args.at c.args.out.now c.if-out-count.false front c.decode_body-decoded.ensures) (stands h counted c.args.out.now front) c.in-Done.is
-    (c.decode_body-decoded.auto.out ∙ part_is h counted c.args.out.now c.if-out-count.false) c.first_sample-first.ensures counted
+    (omega (arith, count_is h counted, c.if-out-count.false)) (first_bit c.args.s.now c.args.at (sym c.requires.1) c.if-s-at.false).1 (stands h counted c.args.out.now front)
+    (left h counted c.args.s.now c.args.at c.args.out.now c.if-out-count.false front c.in_ok-end.ensures)
+    (c.decode_body.auto.out ∙ part_is h counted c.args.out.now c.if-out-count.false) c.first_sample-first.ensures counted
 
-pub returns-in-Refused : goal.returns-in-Refused
-returns-in-Refused c =
+pub returns-in_err-end : goal.returns-in_err-end
+returns-in_err-end c =
     let h = c.complete-h.result in
     let counted = c.channel_count-channels.ensures in
-    let front = c.decode_body-decoded.new.out in
+    let front = c.decode_body.new.out in
     body_refused c.args.set c.args.s.now c.args.out.now c.requires.0 (sym c.requires.1) c.complete-h.ensures (sym c.bits_read.ensures ∙ c.if-not-bits_read.false) (sym c.bits_fit.ensures ∙ c.if-not-bits_fit.false) (sym c.block_fits.ensures ∙ c.if-not-block_fits.false)
-    (omega (arith, count_is h counted, c.if-out-count.false)) (first_bit c.args.s.now c.args.at (sym c.requires.1) c.if-s-at.false).1
-    (left h counted c.args.s.now c.args.at c.args.out.now c.if-out-count.false front c.decode_body-decoded.ensures) (stands h counted c.args.out.now front) c.in-Refused.is
+    (omega (arith, count_is h counted, c.if-out-count.false)) (first_bit c.args.s.now c.args.at (sym c.requires.1) c.if-s-at.false).1 (stands h counted c.args.out.now front)
+    _ c.from_residual.ensures.1 (left h counted c.args.s.now c.args.at c.args.out.now c.if-out-count.false front c.in_err-end.ensures)
