@@ -21,9 +21,6 @@ pub returns-in_err-time : goal.returns-in_err-time
 unfolding header_after_codes
 returns-in_err-time c = exits_by _ _ c.from_residual.ensures.1 (bind_refusal (block_time _) _ _ _ _ (sym c.in_err-time.ensures))
 
-pub read_block_size-requires : goal.read_block_size-requires
-read_block_size-requires c = (c.requires.2, in_inside _ _ (stays_in (block_time _) _ _ (sym c.in_ok-time.ensures)))
-
 pub returns-in_err-size : goal.returns-in_err-size
 unfolding header_after_codes
 returns-in_err-size c =
@@ -49,8 +46,7 @@ pub check_header_sum-requires : goal.check_header_sum-requires
 check_header_sum-requires c =
     let time_byte = moves_at _ _ _ (time_whole _) c.requires.0 (sym c.in_ok-time.ensures) in
     let size_byte = moves_at _ _ _ (size-whole _) time_byte (sym c.in_ok-size.ensures) in
-    let r = rate_read _ _ _ c.rate_bits.ensures c.in_ok-stored.ensures in
-    (moves_at _ _ _ (rate-whole _) size_byte r, in_inside _ _ (stays_in (bits _) _ _ r))
+    moves_at _ _ _ (rate-whole _) size_byte (rate_read _ _ _ c.rate_bits.ensures c.in_ok-stored.ensures)
 
 pub returns-in_err-end : goal.returns-in_err-end
 unfolding header_after_codes
