@@ -8,6 +8,7 @@ use mathlib.Core.Path.{◌≡◌, ap, sym, ◌∙◌}
 use mathlib.Core.List.{List, [], ◌++◌}
 use lib.IntN.{ℤ}
 use lib.ListN.{length, take}
+use Rattle.std.specs.Prelude.{Ok, Err}
 use Rattle.error.specs.declared.Refusal.{Refusal}
 use Rattle.error.specs.declared.Refusal.TheVariants.{NothingLeft, CutShort, NoRoom, BadArgument}
 use Rattle.error.specs.declared.Need.{Need}
@@ -21,24 +22,23 @@ use Rattle.rfc9639.specs.Read.{Report, refusal, Outcome, read}
 use Rattle.demands.proofs.Demand3
 use Rattle.demands.proofs.BufferTable.{Table, table}
 use Rattle.frame.specs.declared.Accepted.{Accepted}
-use Rattle.frame.specs.declared.ReadAnswer.{ReadAnswer}
 use Rattle.frame.specs.Reads.{report_of, Reads}
 use Rattle.frame.proofs.Outcome.{report-tells}
-use Rattle.promises.proofs.Outcomes.{ReadFrame, reads}
+use Rattle.promises.proofs.Outcomes.{ReadAnswer, ReadFrame, reads}
 
 -- What an answer asks of the caller: a refusal, what `needs` of crate `error` says; a frame, nothing. Only what an
 -- answer asks for, bytes or room, can change it.
 abbrev pub asks : ReadAnswer → Need
-asks (ReadAnswer.Frame f) = Final
-asks (ReadAnswer.Refused e) = needs_of e
+asks (Ok f) = Final
+asks (Err e) = needs_of e
 
 -- ---- answers and numbers
 
 -- an answer with a refusal's number is that refusal
-named : (r : ReadAnswer) (x : Refusal) → (report_of r).number ≡ number_of x → r ≡ ReadAnswer.Refused x
+named : (r : ReadAnswer) (x : Refusal) → (report_of r).number ≡ number_of x → r ≡ Err x
 unfolding refusal
-named (ReadAnswer.Frame f) x e = absurd (omega (arith, some_number x))
-named (ReadAnswer.Refused y) x e = ap ReadAnswer.Refused (number-tells y x e)
+named (Ok f) x e = absurd (omega (arith, some_number x))
+named (Err y) x e = ap Err (number-tells y x e)
 
 -- two answers of the code to equal outcomes of the definition are equal
 equal : {x y : Outcome} {r r' : ReadAnswer} {left left' : List ℤ} → x ≡ y → Reads x r left → Reads y r' left' → (r ≡ r') × (left ≡ left')
@@ -72,7 +72,7 @@ module _ {given : Settings} {s : List ℕ} {b : List ℤ} {r : ReadAnswer} {left
 
   -- ---- 3. A frame: its consumed bytes are there, they alone give its answer and buffer, and fewer are cut short.
 
-  module _ {f : Accepted} (is : r ≡ ReadAnswer.Frame f) where
+  module _ {f : Accepted} (is : r ≡ Ok f) where
     zero_number : (read given s b).report.number ≡ 0
     zero_number = number_is ∙ ap (λ (q : ReadAnswer). (report_of q).number) is
 
@@ -86,7 +86,7 @@ module _ {given : Settings} {s : List ℕ} {b : List ℤ} {r : ReadAnswer} {left
     counted-suffice p =
         equal (sym (ap (λ n. read given (take n s) b) (sym consumed_is) ∙ Demand3.counted-suffice given s b zero_number)) (reads o) (reads p)
 
-    pub fewer-cut_short : (m : ℕ) → 0 < m → m < f.consumed → {r' : ReadAnswer} {left' : List ℤ} → ReadFrame given (take m s) b r' left' → r' ≡ ReadAnswer.Refused CutShort
+    pub fewer-cut_short : (m : ℕ) → 0 < m → m < f.consumed → {r' : ReadAnswer} {left' : List ℤ} → ReadFrame given (take m s) b r' left' → r' ≡ Err CutShort
     fewer-cut_short m some less {r'} p =
         named r' CutShort
         (ap (λ (q : Report). q.number) (reads p).report
@@ -104,14 +104,14 @@ module _ {given : Settings} {s : List ℕ} {b : List ℤ} {r : ReadAnswer} {left
 
 -- under settings that a stream can have, the empty input is refused as `NothingLeft`, and the buffer stays
 pub nothing_left : {given : Settings} → possible given ≡ true → {b : List ℤ} {r : ReadAnswer} {left : List ℤ} → ReadFrame given [] b r left
-    → (r ≡ ReadAnswer.Refused NothingLeft) × (left ≡ b)
+    → (r ≡ Err NothingLeft) × (left ≡ b)
 nothing_left {given} ok {b} {r} o =
     let one = Demand3.nothing_left given ok b in
     (named r NothingLeft (sym (number_is o) ∙ one), (reads o).samples ∙ (table given [] b).row_1 one)
 
 -- settings that no stream has are refused as `BadArgument` whatever the bytes, and the buffer stays
 pub settings-refused : {given : Settings} → possible given ≡ false → {s : List ℕ} {b : List ℤ} {r : ReadAnswer} {left : List ℤ} → ReadFrame given s b r left
-    → (r ≡ ReadAnswer.Refused BadArgument) × (left ≡ b)
+    → (r ≡ Err BadArgument) × (left ≡ b)
 unfolding refusal
 settings-refused {given} bad {s} {b} {r} o =
     let outcome = Demand3.settings-refused given bad s b in (

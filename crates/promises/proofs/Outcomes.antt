@@ -6,18 +6,26 @@ use lib.IntN.{ℤ}
 use contract.Lifetimes.{Lfts}
 use denote.Triple.Entry.{Args}
 use denote.Triple.Clauses.{at_exit}
+use Rattle.std.specs.Prelude.{Result}
 use Rattle.rfc9639.specs.declared.FrameSetting.{FrameSetting}
 use Rattle.rfc9639.specs.declared.Settings.{Settings}
 use Rattle.rfc9639.specs.Read.{read}
 use Rattle.rfc9639.specs.Write.{write}
-use Rattle.frame.specs.declared.ReadAnswer.{ReadAnswer}
+use Rattle.error.specs.declared.Refusal.{Refusal}
+use Rattle.frame.specs.declared.Accepted.{Accepted}
 use Rattle.frame.specs.Reads.{Reads}
 use Rattle.frame.specs.contracts.read_frame as read_frame
 use Rattle.frame.proofs.read_frame.Reads as read_frame_reads
-use Rattle.frame_writer.specs.declared.WriteAnswer.{WriteAnswer}
 use Rattle.frame_writer.specs.Outcomes.{outcome}
 use Rattle.frame_writer.specs.contracts.write_frame as write_frame
 use Rattle.frame_writer.proofs.write_frame.Reads as write_frame_reads
+
+-- what `read_frame` answers, and `write_frame`
+abbrev pub ReadAnswer : Type 0
+ReadAnswer = Result Accepted Refusal
+
+abbrev pub WriteAnswer : Type 0
+WriteAnswer = Result ℕ Refusal
 
 -- the settings among the arguments of `write_frame`
 abbrev setting_of : (κs : Lfts write_frame.ended.signature.lifetimes) → Args write_frame.ended.signature κs → FrameSetting

@@ -10,10 +10,10 @@ use lib.Dec.{leb}
 use lib.IntN.{ℤ}
 use lib.ListN.{length, take, drop}
 use lib.Seq.{take-append_seam}
+use Rattle.std.specs.Prelude.{Some, Ok, Err}
 use Rattle.error.specs.declared.Refusal.TheVariants.{BadShape}
 use Rattle.rfc9639.specs.declared.FrameSetting.{FrameSetting}
 use Rattle.rfc9639.specs.declared.Settings.{Settings}
-use Rattle.rfc9639.specs.declared.StreamBlock.{StreamBlock}
 use Rattle.rfc9639.specs.HeaderCodes.{assignment, channel_count}
 use Rattle.rfc9639.specs.Stream.{possible, bits_fit}
 use Rattle.rfc9639.specs.Read.{refusal, Outcome, read}
@@ -23,11 +23,9 @@ use Rattle.readback.specs.FirstSample.{first_of}
 use Rattle.readback.specs.StreamRate.{rate_of}
 use Rattle.readback.specs.Readable.{readable}
 use Rattle.readback.proofs.ReadBack.{written_report, read_back, other-refused, smaller_refused}
-use Rattle.frame.specs.declared.ReadAnswer.{ReadAnswer}
 use Rattle.frame.proofs.Outcome.{report-tells}
-use Rattle.frame_writer.specs.declared.WriteAnswer.{WriteAnswer}
 use Rattle.frame_writer.specs.Outcomes.{outcome}
-use Rattle.promises.proofs.Outcomes.{ReadFrame, reads, WriteFrame, writes}
+use Rattle.promises.proofs.Outcomes.{ReadAnswer, ReadFrame, reads, WriteAnswer, WriteFrame, writes}
 
 -- what a written frame says about its settings, samples and output
 record Wrote (set : FrameSetting) (xs : List ℤ) (out : List ℕ) (n : ℕ) (left : List ℕ) : Type 0 where
@@ -36,7 +34,7 @@ record Wrote (set : FrameSetting) (xs : List ℤ) (out : List ℕ) (n : ℕ) (le
   long : n ≡ length (frame_bytes set xs)
   laid : left ≡ frame_bytes set xs ++ drop (length (frame_bytes set xs)) out
 
-wrote : (set : FrameSetting) (xs : List ℤ) (out : List ℕ) (n : ℕ) (left : List ℕ) → outcome (WriteAnswer.Frame n) left ≡ write set xs out → Wrote set xs out n left
+wrote : (set : FrameSetting) (xs : List ℤ) (out : List ℕ) (n : ℕ) (left : List ℕ) → outcome (Ok n) left ≡ write set xs out → Wrote set xs out n left
 unfolding write unwritten
 wrote set xs out n left e = go (allowed set (length xs)) refl (all_fit set.bits xs) refl (leb (length (frame_bytes set xs)) (length out)) e
   where
@@ -44,7 +42,7 @@ wrote set xs out n left e = go (allowed set (length xs)) refl (all_fit set.bits 
     at_length b = cond b (record { number = 0; length = length (frame_bytes set xs); output = frame_bytes set xs ++ drop (length (frame_bytes set xs)) out }) (unwritten 13 out)
 
     go : (a : Bool) → allowed set (length xs) ≡ a → (f : Bool) → all_fit set.bits xs ≡ f → (l : Bool)
-        → outcome (WriteAnswer.Frame n) left ≡ cond a (cond f (at_length l) (unwritten 12 out)) (unwritten 11 out) → Wrote set xs out n left
+        → outcome (Ok n) left ≡ cond a (cond f (at_length l) (unwritten 12 out)) (unwritten 11 out) → Wrote set xs out n left
     go true a true f true e = record {
       ok = a;
       fit = f;
@@ -55,7 +53,7 @@ wrote set xs out n left e = go (allowed set (length xs)) refl (all_fit set.bits 
     go true a false f l e = absurd (let z = ap (λ (w : Written). w.number) e in omega arith)
     go false a f g l e = absurd (let z = ap (λ (w : Written). w.number) e in omega arith)
 
-module _ {set : FrameSetting} {xs : List ℤ} {out : List ℕ} {n : ℕ} {left : List ℕ} (o : WriteFrame set xs out (WriteAnswer.Frame n) left) where
+module _ {set : FrameSetting} {xs : List ℤ} {out : List ℕ} {n : ℕ} {left : List ℕ} (o : WriteFrame set xs out (Ok n) left) where
   abbrev w : Wrote set xs out n left
   w = wrote set xs out n left (writes o)
 
@@ -74,15 +72,15 @@ module _ {set : FrameSetting} {xs : List ℤ} {out : List ℕ} {n : ℕ} {left :
 
     -- the answer where the definition refuses the frame with 9
     shape_refused : read given (frame_bytes set xs ++ rest) b ≡ record { report = refusal 9; buffer = b }
-        → {r : ReadAnswer} {kept : List ℤ} → ReadFrame given (take n left ++ rest) b r kept → (r ≡ ReadAnswer.Refused BadShape) × (kept ≡ b)
+        → {r : ReadAnswer} {kept : List ℤ} → ReadFrame given (take n left ++ rest) b r kept → (r ≡ Err BadShape) × (kept ≡ b)
     shape_refused back {r} p = (
-      report-tells r (ReadAnswer.Refused BadShape) ((reads p).report ∙ ap (λ (x : Outcome). x.report) (read_is ∙ back)),
+      report-tells r (Err BadShape) ((reads p).report ∙ ap (λ (x : Outcome). x.report) (read_is ∙ back)),
       (reads p).samples ∙ ap (λ (x : Outcome). x.buffer) (read_is ∙ back),
     )
 
     -- Under settings that it is readable under, in any buffer with room for the samples.
     pub written_reads-back : readable given set ≡ true → length xs ≤ length b → {r : ReadAnswer} {kept : List ℤ} → ReadFrame given (take n left ++ rest) b r kept
-        → (r ≡ ReadAnswer.Frame (record { consumed = n; first = first_of given.block set; rate = rate_of given.stream; channels = channel_count (assignment set.channels); bits = set.bits; size = set.size }))
+        → (r ≡ Ok (record { consumed = n; first = first_of given.block set; rate = rate_of given.stream; channels = channel_count (assignment set.channels); bits = set.bits; size = set.size }))
         × (kept ≡ xs ++ drop (length xs) b)
     written_reads-back can room {r} p =
         let back = read_is ∙ read_back given set xs can w.ok w.fit rest b room in (
@@ -93,11 +91,11 @@ module _ {set : FrameSetting} {xs : List ℤ} {out : List ℕ} {n : ℕ} {left :
     -- What is refused, in any buffer: bits that are not those of the stream's record ..
     pub other-bits-refused : possible given ≡ true → bits_fit given.stream set.bits ≡ false
         → {r : ReadAnswer} {kept : List ℤ} → ReadFrame given (take n left ++ rest) b r kept
-        → (r ≡ ReadAnswer.Refused BadShape) × (kept ≡ b)
+        → (r ≡ Err BadShape) × (kept ≡ b)
     other-bits-refused can other p = shape_refused (other-refused given set xs can other w.ok rest b) p
 
     -- .. and with fixed blocking a size given for the stream's blocks that is below the frame's.
-    pub smaller_size-refused : possible given ≡ true → set.blocking ≡ 0 → {size : ℕ} → given.block ≡ StreamBlock.Known size → size < set.size
+    pub smaller_size-refused : possible given ≡ true → set.blocking ≡ 0 → {size : ℕ} → given.block ≡ Some size → size < set.size
         → {r : ReadAnswer} {kept : List ℤ} → ReadFrame given (take n left ++ rest) b r kept
-        → (r ≡ ReadAnswer.Refused BadShape) × (kept ≡ b)
+        → (r ≡ Err BadShape) × (kept ≡ b)
     smaller_size-refused can fixed known less p = shape_refused (smaller_refused given set xs can fixed known less w.ok rest b) p
