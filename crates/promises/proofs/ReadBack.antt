@@ -25,7 +25,7 @@ use Rattle.readback.specs.Readable.{readable}
 use Rattle.readback.proofs.ReadBack.{written_report, read_back, other-refused, smaller_refused}
 use Rattle.frame.proofs.Outcome.{report-tells}
 use Rattle.frame_writer.specs.Outcomes.{outcome}
-use Rattle.promises.proofs.Outcomes.{ReadAnswer, ReadFrame, reads, WriteAnswer, WriteFrame, writes}
+use Rattle.promises.proofs.Outcomes.{ReadAnswer, ReadFrame, reads, WriteFrame, writes}
 
 -- what a written frame says about its settings, samples and output
 record Wrote (set : FrameSetting) (xs : List ℤ) (out : List ℕ) (n : ℕ) (left : List ℕ) : Type 0 where
