@@ -1,21 +1,19 @@
 // The functions of `block` on claxon's test data, and each of their refusals. A line has the block as channels x size,
 // a channel and an index, then the three answers: the channel's range and its samples, the sample, and the pair.
 use crate::show::{equals, mark, show_number, show_refusal, text, value32, values32};
-use block::{Block, ChannelAt, PairAt, SampleAt, channel, pair, sample};
+use block::{Block, channel, pair, sample};
 
 // The slice needs no check: by its contract, `channel` answers a range that lies in the samples.
 fn channel_at(s: &[i32], b: Block, c: usize) {
-    let r = channel(s, b, c);
-    match r {
-        ChannelAt::Range(start, end) => {
-            let there = &s[start..end];
+    match channel(s, b, c) {
+        Ok((start, end)) => {
             show_number(b' ', start as u64);
             mark(b'.');
             show_number(b'.', end as u64);
             mark(b',');
-            values32(there);
+            values32(&s[start..end]);
         }
-        ChannelAt::Refused(e) => {
+        Err(e) => {
             show_refusal(e);
             mark(b',');
         }
@@ -32,19 +30,17 @@ fn at(s: &[i32], channels: usize, size: usize, c: usize, i: usize) {
     let b = Block { channels, size };
     channel_at(s, b, c);
     mark(b',');
-    let r = sample(s, b, c, i);
-    match r {
-        SampleAt::Value(x) => value32(x),
-        SampleAt::Refused(e) => show_refusal(e),
+    match sample(s, b, c, i) {
+        Ok(x) => value32(x),
+        Err(e) => show_refusal(e),
     }
     mark(b',');
-    let r = pair(s, b, i);
-    match r {
-        PairAt::Values(left, right) => {
+    match pair(s, b, i) {
+        Ok((left, right)) => {
             value32(left);
             value32(right);
         }
-        PairAt::Refused(e) => show_refusal(e),
+        Err(e) => show_refusal(e),
     }
     mark(b'\n');
 }

@@ -2,30 +2,35 @@
 // data is on a line of its own. Then each step has a line: `b` for one bit, b17 for `read_bits` of 17 bits, `u` for
 // `read_unary`; the place that it starts at; the value and the place after it, or nothing where the input is short.
 use crate::show::{STDOUT, equals, mark, part, show_bytes, show_number, show_place, text};
-use input::{Bits, read_bits, read_unary, word_from};
+use error::Read;
+use input::{read_bits, read_unary, word_from};
 use reading::Place;
 
 // A step is a number of bits, or a letter: b for one bit, u for `read_unary`.
-fn read(s: &[u8], at: Place, n: u8) -> Bits {
-    if n == b'b' {
-        mark(n);
-        return read_bits(s, at, 1);
+fn read(s: &[u8], at: Place, n: u8) -> Read<u64> {
+    match n {
+        b'b' => {
+            mark(n);
+            read_bits(s, at, 1)
+        }
+        b'u' => {
+            mark(n);
+            read_unary(s, at)
+        }
+        _ => {
+            show_number(b'b', n as u64);
+            read_bits(s, at, n as u32)
+        }
     }
-    if n == b'u' {
-        mark(n);
-        return read_unary(s, at);
-    }
-    show_number(b'b', n as u64);
-    read_bits(s, at, n as u32)
 }
 
 // One step. Returns the place after it, or the same place where the input is short.
 fn step(s: &[u8], at: Place, n: u8) -> Place {
-    let mut next = at;
     let r = read(s, at, n);
     show_place(at);
     equals();
-    if let Bits::Value(v, p) = r {
+    let mut next = at;
+    if let Ok((v, p)) = r {
         show_number(b' ', v);
         show_place(p);
         next = p;
@@ -39,10 +44,8 @@ fn steps(s: &[u8], ns: &[u8], byte: usize, bit: usize) {
     show_bytes(s);
     mark(b'\n');
     let mut p = Place { byte, bit };
-    let mut i = 0;
-    while i < ns.len() {
-        p = step(s, p, ns[i]);
-        i += 1;
+    for n in ns {
+        p = step(s, p, *n);
     }
 }
 

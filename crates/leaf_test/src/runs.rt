@@ -7,41 +7,30 @@ ghost use Rattle.std.specs.Prelude.{◌^◌, ◌<◌};
 
 use crate::bit_by_bit;
 use crate::show::{equals, mark, part, show_number, text};
-use input::{Bits, read_bits, read_unary, word_from};
+use error::Read;
+use input::{read_bits, read_unary, word_from};
 use reading::Place;
-use std::num::wrapping_add_u64;
-
-fn is_short(r: Bits) -> bool {
-    match r {
-        Bits::Value(_v, _p) => false,
-        Bits::Short => true,
-    }
-}
-
-// Whether the answer is this number and the place of this bit.
-fn is_value(r: Bits, v: u64, end: usize) -> bool {
-    match r {
-        Bits::Value(w, p) => v == w && p.byte == end / 8 && p.bit == end % 8,
-        Bits::Short => false,
-    }
-}
 
 // Whether the three answers are right.
 fn is_right(s: &[u8], bit: usize, zeros: usize) -> bool
     requires { (bit < 8) × (zeros < 2 ^ 32) }
 {
     let at = Place { byte: 0, bit };
-    let end = bit + zeros + 1;
     let bytes = (bit + zeros) / 8;
-    let followed = is_value(read_unary(s, at), zeros as u64, end);
-    let last = is_value(read_unary(part(s, 0, bytes + 1), at), zeros as u64, end);
-    let short = is_short(read_unary(part(s, 0, bytes), at));
-    followed && last && short
+    let end = bit + zeros + 1;
+    let next = Place {
+        byte: end / 8,
+        bit: end % 8,
+    };
+    let right = Ok((zeros as u64, next));
+    read_unary(s, at) == right
+        && read_unary(part(s, 0, bytes + 1), at) == right
+        && read_unary(part(s, 0, bytes), at).is_err()
 }
 
 fn put(s: &mut [u8], i: usize, b: u8) {
-    if i < s.len() {
-        s[i] = b;
+    if let Some(x) = s.get_mut(i) {
+        *x = b;
     }
 }
 
@@ -60,20 +49,15 @@ fn run(s: &mut [u8], bit: usize, zeros: usize) -> bool
     r
 }
 
-fn one_if(b: bool) -> u64 {
-    if b { 1 } else { 0 }
-}
-
 // Runs of each length from one to another, from each bit.
 fn lengths(s: &mut [u8], from: usize, to: usize)
     requires { (from < 2 ^ 28) × (to < 2 ^ 28) }
 {
     let mut n: u64 = 0;
-    let mut i = 8 * from;
-    let end = 8 * to + 8;
-    while i < end {
-        n = wrapping_add_u64(n, one_if(run(s, i % 8, i / 8)));
-        i += 1;
+    for zeros in from..=to {
+        for bit in 0..8 {
+            n = n.wrapping_add(u64::from(run(s, bit, zeros)));
+        }
     }
     text(b"runs of");
     show_number(b' ', from as u64);
@@ -96,19 +80,9 @@ fn draw(x: u64) -> u64 {
     z ^ (z << 17)
 }
 
-fn is_same(a: Bits, b: Bits) -> bool {
-    match a {
-        Bits::Value(v, p) => match b {
-            Bits::Value(w, q) => v == w && p.byte == q.byte && p.bit == q.bit,
-            Bits::Short => false,
-        },
-        Bits::Short => is_short(b),
-    }
-}
-
 // What the seeded inputs got: the inputs on which a reader differs, the runs that ended, those of 64 zeros or more, the
 // numbers of more than 56 bits, and the other numbers.
-#[derive(Clone, Copy)]
+#[derive(Clone, Copy, Default)]
 struct SeededCounts {
     differ: u64,
     ended: u64,
@@ -117,55 +91,37 @@ struct SeededCounts {
     narrow: u64,
 }
 
-fn is_long(r: Bits) -> bool {
-    match r {
-        Bits::Value(v, _p) => 64 <= v,
-        Bits::Short => false,
-    }
+fn is_long(r: Read<u64>) -> bool {
+    matches!(r, Ok((v, _)) if 64 <= v)
 }
 
 // The 64 bits from a byte on, one by one, or 0 where the input ends before.
 fn word_one_by_one(s: &[u8], byte: usize) -> u64 {
     match bit_by_bit::bits_one_by_one(s, Place { byte, bit: 0 }, 64) {
-        Bits::Value(v, _p) => v,
-        Bits::Short => 0,
+        Ok((v, _)) => v,
+        Err(_) => 0,
     }
 }
 
-fn compared(s: &[u8], at: Place, n: u32, t: SeededCounts) -> SeededCounts {
-    let zeros = read_unary(s, at);
-    let number = read_bits(s, at, n);
-    let byte = at.byte;
-    let same = is_same(zeros, bit_by_bit::unary_one_by_one(s, at))
-        && is_same(number, bit_by_bit::bits_one_by_one(s, at, n))
-        && word_from(s, byte) == word_one_by_one(s, byte);
-    SeededCounts {
-        differ: wrapping_add_u64(t.differ, one_if(!same)),
-        ended: wrapping_add_u64(t.ended, one_if(!is_short(zeros))),
-        long: wrapping_add_u64(t.long, one_if(is_long(zeros))),
-        wide: wrapping_add_u64(t.wide, one_if(56 < n && !is_short(number))),
-        narrow: wrapping_add_u64(t.narrow, one_if(n <= 56 && !is_short(number))),
+impl SeededCounts {
+    // Counts one input: its place, and the length of its number.
+    fn count(&mut self, s: &[u8], at: Place, n: u32) {
+        let zeros = read_unary(s, at);
+        let number = read_bits(s, at, n);
+        let same = zeros == bit_by_bit::unary_one_by_one(s, at)
+            && number == bit_by_bit::bits_one_by_one(s, at, n)
+            && word_from(s, at.byte) == word_one_by_one(s, at.byte);
+        add(&mut self.differ, !same);
+        add(&mut self.ended, zeros.is_ok());
+        add(&mut self.long, is_long(zeros));
+        add(&mut self.wide, 56 < n && number.is_ok());
+        add(&mut self.narrow, n <= 56 && number.is_ok());
     }
 }
 
-fn put_byte(s: &mut [u8], at: usize, i: usize, v: u64)
-    requires { (at < 2 ^ 32) × (i < 8) }
-{
-    put(s, at + i, ((v >> (8 * i)) % 256) as u8);
-}
-
-// Writes the bytes of a number, the lowest first.
-fn scatter(s: &mut [u8], at: usize, v: u64)
-    requires { at < 2 ^ 32 }
-{
-    put_byte(s, at, 0, v);
-    put_byte(s, at, 1, v);
-    put_byte(s, at, 2, v);
-    put_byte(s, at, 3, v);
-    put_byte(s, at, 4, v);
-    put_byte(s, at, 5, v);
-    put_byte(s, at, 6, v);
-    put_byte(s, at, 7, v);
+// One more, if it holds.
+fn add(count: &mut u64, holds: bool) {
+    *count = count.wrapping_add(u64::from(holds));
 }
 
 // Eight bytes with few ones: about one bit in 32, over all draws.
@@ -190,30 +146,22 @@ fn show_counts(t: SeededCounts) {
 
 pub fn seeded() {
     let mut s = [0u8; 40];
-    let mut t = SeededCounts {
-        differ: 0,
-        ended: 0,
-        long: 0,
-        wide: 0,
-        narrow: 0,
-    };
+    let mut t = SeededCounts::default();
     let mut x: u64 = 203;
-    let mut i: u32 = 0;
-    while i < 1_000_000 {
+    for _ in 0..1_000_000 {
         let a = draw(x);
         x = draw(a);
-        scatter(&mut s, (x % 33) as usize, few_ones(a, x));
+        let first = (x % 33) as usize;
+        s[first..first + 8].copy_from_slice(&few_ones(a, x).to_le_bytes());
         let at = Place {
             byte: ((x >> 16) % 43) as usize,
             bit: ((x >> 24) % 9) as usize,
         };
-        t = compared(
+        t.count(
             part(&s, 0, ((x >> 8) % 41) as usize),
             at,
             ((x >> 32) % 73) as u32,
-            t,
         );
-        i += 1;
     }
     show_counts(t);
 }

@@ -1,10 +1,9 @@
 // The pieces of an output line, and the data of a case. A call with a byte string or an array of its own takes several
 // times as long to prove as one with numbers. So separators are bytes, and the data of many cases is one byte string,
 // of which each case names a part.
-use error::{Refusal, number_of};
+use error::Refusal;
 use reading::Place;
 use signed::low_bits;
-use std::num::wrapping_sub_u64;
 
 // The number of standard output.
 pub const STDOUT: i32 = 1;
@@ -29,7 +28,7 @@ pub fn show_value(x: i64) {
     let bits = low_bits(x, 64);
     if x < 0 {
         mark(b' ');
-        show_number(b'-', wrapping_sub_u64(0, bits));
+        show_number(b'-', bits.wrapping_neg());
     } else {
         show_number(b' ', bits);
     }
@@ -37,7 +36,7 @@ pub fn show_value(x: i64) {
 
 // The same number, wider.
 pub fn wide(x: i32) -> i64 {
-    x as i64
+    i64::from(x)
 }
 
 pub fn value32(x: i32) {
@@ -45,23 +44,15 @@ pub fn value32(x: i32) {
 }
 
 pub fn values32(xs: &[i32]) {
-    let mut i = 0;
-    while i < xs.len() {
-        value32(xs[i]);
-        i += 1;
+    for x in xs {
+        value32(*x);
     }
-}
-
-fn byte(x: u8) {
-    io::print_hex(STDOUT, x as u64, 2);
 }
 
 // Bytes in hexadecimal.
 pub fn show_bytes(s: &[u8]) {
-    let mut i = 0;
-    while i < s.len() {
-        byte(s[i]);
-        i += 1;
+    for b in s {
+        io::print_hex(STDOUT, *b as u64, 2);
     }
 }
 
@@ -85,7 +76,7 @@ pub fn show_answer(x: i64) {
 
 pub fn show_refusal(e: Refusal) {
     text(b" refused");
-    show_number(b' ', number_of(e) as u64);
+    show_number(b' ', u8::from(e) as u64);
 }
 
 // A part of the data, or nothing where the range is out of bounds.

@@ -4,14 +4,15 @@
 use crate::show::{
     equals, mark, part, show_bytes, show_number, show_place, show_refusal, text, values32,
 };
+use error::Refusal;
 use reading::Place;
-use subframe::{Decoded, decode};
+use subframe::decode;
 
-fn decoded(d: Decoded, out: &[i32]) {
+fn decoded(d: Result<Place, Refusal>, out: &[i32]) {
     equals();
     match d {
-        Decoded::Done(p) => show_place(p),
-        Decoded::Refused(e) => show_refusal(e),
+        Ok(p) => show_place(p),
+        Err(e) => show_refusal(e),
     }
     mark(b',');
     values32(out);
@@ -70,17 +71,7 @@ pub fn subframe_cases() {
 // be split into two partitions.
 pub fn partition_boundaries() {
     let mut data = [0xc3u8; 1034];
-    data[0] = 0x18;
-    data[1] = 0x00;
-    data[2] = 0x00;
-    data[3] = 0x00;
-    data[4] = 0x01;
-    data[5] = 0x00;
-    data[6] = 0x02;
-    data[7] = 0x00;
-    data[8] = 0x03;
-    data[9] = 0x28;
-    data[10] = 0x03;
+    data[..11].copy_from_slice(b"\x18\x00\x00\x00\x01\x00\x02\x00\x03\x28\x03");
     run(&data, 0, 1034, 16, 4096);
     let s: &[u8] = b"\x48\x00\x01\x00\x02\x00\x03\x00\x04\x00\x05\x10\x00\x05\x00\
         \x10\x04\x00\
