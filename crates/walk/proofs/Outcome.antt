@@ -4,7 +4,9 @@ use mathlib.Core.Path.{◌≡◌, refl, ap, ap₂}
 use mathlib.Core.List.{List}
 use lib.IntN.{ℤ}
 use Rattle.reading.proofs.Outcome.{OneOutcome, one_value}
-use Rattle.frame.specs.declared.ReadAnswer.{ReadAnswer}
+use Rattle.std.specs.Prelude.{Result}
+use Rattle.error.specs.declared.Refusal.{Refusal}
+use Rattle.frame.specs.declared.Accepted.{Accepted}
 use Rattle.frame.proofs.Outcome.{report-tells}
 use Rattle.walk.specs.declared.Step.{Step}
 use Rattle.walk.specs.contracts.read_next as read_next
@@ -14,7 +16,7 @@ use Rattle.walk.proofs.stream_settings.Reads as stream_settings_reads
 
 -- a step is determined by its two parts
 parts_tell : (r r' : Step) → r.answer ≡ r'.answer → r.place ≡ r'.place → r ≡ r'
-parts_tell r r' a n = ap₂ (λ (x : ReadAnswer) (y : ℕ). record { answer = x; place = y }) a n
+parts_tell r r' a n = ap₂ (λ (x : Result Accepted Refusal) (y : ℕ). record { answer = x; place = y }) a n
 
 pub read_next-one : OneOutcome read_next.ended read_next_reads.Learnt
 read_next-one κs args r r' left left' p q = (

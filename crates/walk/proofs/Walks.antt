@@ -6,6 +6,7 @@ use mathlib.Core.List.{List, [], ◌∷◌, ◌++◌}
 use lib.IntN.{ℤ}
 use lib.ListN.{length, drop}
 use lib.Seq.{drop-drop, drop-append-le, drop-append-add}
+use Rattle.std.specs.Prelude.{Ok, Err}
 use Rattle.error.specs.declared.Refusal.{Refusal}
 use Rattle.error.proofs.Outcome.{some_number}
 use Rattle.rfc9639.specs.declared.Settings.{Settings}
@@ -13,7 +14,6 @@ use Rattle.rfc9639.specs.Read.{Report, refusal, Result, result, read}
 use Rattle.rfc9639.specs.FrameByFrame.{Verdict, accept, undecided, refuse, verdict_of, verdict, goes_on, answers}
 use Rattle.demands.proofs.FrameByFrame.{accept-zero, Lawful, answers_unrolled, lawful}
 use Rattle.frame.specs.declared.Accepted.{Accepted}
-use Rattle.frame.specs.declared.ReadAnswer.{ReadAnswer}
 use Rattle.frame.specs.Reads.{report_of}
 use Rattle.walk.specs.declared.Step.{Step}
 use Rattle.walk.specs.Steps.{Steps}
@@ -27,9 +27,9 @@ pub record StepTaken : Type 0 where
 -- Steps from a place on, all with the same settings and room, up to and including the first refusal.
 pub data Walk (s : List ℕ) (set : Settings) (room : ℕ) : ℕ → List StepTaken → Type 0 where
   stops : {place : ℕ} {t : StepTaken} (e : Refusal) → length t.lent ≡ room → Steps s place set t.lent t.step t.left
-      → t.step.answer ≡ ReadAnswer.Refused e → Walk s set room place (t ∷ [])
+      → t.step.answer ≡ Err e → Walk s set room place (t ∷ [])
   goes : {place : ℕ} {t : StepTaken} {ts : List StepTaken} (f : Accepted) → length t.lent ≡ room → Steps s place set t.lent t.step t.left
-      → t.step.answer ≡ ReadAnswer.Frame f → Walk s set room t.step.place ts → Walk s set room place (t ∷ ts)
+      → t.step.answer ≡ Ok f → Walk s set room t.step.place ts → Walk s set room place (t ∷ ts)
 
 -- a step shows an answer of the definition: its report, and its samples at the front of what was lent
 pub record Shows (t : StepTaken) (q : Result) : Type 0 where
@@ -53,11 +53,11 @@ module _ (s : List ℕ) (set : Settings) (room : ℕ) where
   }
 
   module _ (place : ℕ) {t : StepTaken} (w : Shows t (one (drop place s))) where
-    frame-verdict : {f : Accepted} → t.step.answer ≡ ReadAnswer.Frame f → verdict (one (drop place s)) ≡ accept
+    frame-verdict : {f : Accepted} → t.step.answer ≡ Ok f → verdict (one (drop place s)) ≡ accept
     unfolding verdict_of
     frame-verdict e = ap (λ (r : Report). verdict_of r.number) (sym w.report ∙ ap report_of e)
 
-    refusal-ends : {e : Refusal} → t.step.answer ≡ ReadAnswer.Refused e → (l : List Result) → goes_on (verdict (one (drop place s))) l ≡ []
+    refusal-ends : {e : Refusal} → t.step.answer ≡ Err e → (l : List Result) → goes_on (verdict (one (drop place s))) l ≡ []
     unfolding refusal goes_on
     refusal-ends {e} is l = go (verdict (one (drop place s))) refl
       where

@@ -8,14 +8,14 @@ ghost use Rattle.std.specs.Prelude.{◌≡◌};
 ghost use Rattle.rfc9639.specs.FrameByFrame.{stream_settings};
 ghost use Rattle.walk.specs.Steps.{Steps};
 
-use frame::ReadAnswer;
-use header::HeaderRead;
-use rfc9639::{Settings, StreamBlock, StreamRecord};
+use error::Refusal;
+use frame::Accepted;
+use rfc9639::Settings;
 
 // What was read at a place, and the next place: past an accepted frame, or the same place after a refusal.
-#[derive(Clone, Copy)]
+#[derive(Clone, Copy, Debug, PartialEq, Eq)]
 pub struct Step {
-    pub answer: ReadAnswer,
+    pub answer: Result<Accepted, Refusal>,
     pub place: usize,
 }
 
@@ -24,14 +24,12 @@ pub struct Step {
 pub fn read_next(s: &[u8], place: usize, set: Settings, samples: &mut [i32]) -> Step
     ensures { Steps s.now place set samples.old result samples.new }
 {
-    let start = number::lesser(place, s.len());
+    let start = place.min(s.len());
     let answer = frame::read_frame(&s[start..], set, samples);
-    match answer {
-        ReadAnswer::Frame(f) => Step {
-            answer,
-            place: place + f.consumed,
-        },
-        ReadAnswer::Refused(_) => Step { answer, place },
+    let consumed = answer.map_or(0, |f| f.consumed);
+    Step {
+        answer,
+        place: place + consumed,
     }
 }
 
@@ -40,15 +38,8 @@ pub fn read_next(s: &[u8], place: usize, set: Settings, samples: &mut [i32]) -> 
 pub fn stream_settings(s: &[u8]) -> Settings
     ensures { result ≡ stream_settings s.now }
 {
-    let first = header::read_header(s);
-    match first {
-        HeaderRead::Header(h, _) => Settings {
-            block: StreamBlock::Known(h.size),
-            stream: StreamRecord::Unknown,
-        },
-        HeaderRead::Refused(_) => Settings {
-            block: StreamBlock::Unknown,
-            stream: StreamRecord::Unknown,
-        },
+    Settings {
+        block: header::read_header(s).ok().map(|(h, _)| h.size),
+        stream: None,
     }
 }
