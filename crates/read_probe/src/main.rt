@@ -14,65 +14,49 @@
 // If a room is above 65,536, or the flag `block given` or `stream given` is neither 0 nor 1, the only byte written is 11.
 #![tactic(auto)]
 
-ghost use Rattle.std.specs.Prelude.{◌≡◌, ◌+◌, ◌≤◌, length};
+ghost use Rattle.std.specs.Prelude.{◌≤◌, length};
 
-use frame::ReadAnswer;
-use rfc9639::{FirstSample, Settings, StreamBlock, StreamRecord};
+use error::Refusal;
+use frame::Accepted;
+use probe_records::{answer_bytes, number_from_bytes, sample_bytes, sample_from_bytes};
+use rfc9639::{Settings, StreamRecord};
 
 // The numbers of standard input and standard output.
 const STDIN: i32 = 0;
 
 const STDOUT: i32 = 1;
 
-fn write_refusal(number: u8) {
-    let bytes = probe_records::answer_bytes(number, 0, FirstSample::Unknown, 0, 0, 0);
+fn write_answer(answer: Result<Accepted, Refusal>) {
+    let bytes = match answer {
+        Ok(f) => answer_bytes(
+            0,
+            f.consumed as u64,
+            f.first,
+            f.channels as u64,
+            f.bits as u64,
+            f.size as u64,
+        ),
+        Err(e) => answer_bytes(e.into(), 0, None, 0, 0, 0),
+    };
     io::write_all(STDOUT, &bytes);
 }
 
-fn write_answer(answer: ReadAnswer) {
-    match answer {
-        ReadAnswer::Frame(f) => {
-            let first = f.first;
-            let bytes = probe_records::answer_bytes(
-                0,
-                f.consumed as u64,
-                first,
-                f.channels as u64,
-                f.bits as u64,
-                f.size as u64,
-            );
-            io::write_all(STDOUT, &bytes);
-        }
-        ReadAnswer::Refused(e) => write_refusal(error::number_of(e)),
-    }
-}
-
-fn write_first(bytes: &[u8], n: usize)
-    requires { (length bytes.now ≡ 524288) × (n ≤ 524288) }
-{
-    io::write_all(STDOUT, &bytes[..n]);
-}
-
-// Places of eight bytes, at once: one write for each would be slow.
+// Places of eight bytes, all in eight writes: one write for each place would be slow.
 fn write_zeros(places: usize)
     requires { places ≤ 65536 }
 {
-    let zeros = [0u8; 524288];
-    write_first(&zeros, 8 * places);
+    let zeros = io::large_buffer();
+    for _ in 0..8 {
+        io::write_all(STDOUT, &zeros[..places]);
+    }
 }
 
 fn write_samples(samples: &[i32])
     requires { length samples.now ≤ 65536 }
 {
-    let mut out = [0u8; 262144];
-    let mut i = 0;
-    while i < samples.len() {
-        let b = probe_records::sample_bytes(samples[i]);
-        out[4 * i] = b[0];
-        out[4 * i + 1] = b[1];
-        out[4 * i + 2] = b[2];
-        out[4 * i + 3] = b[3];
-        i += 1;
+    let mut out = [0; 262144];
+    for (place, sample) in out.chunks_exact_mut(4).zip(samples) {
+        place.copy_from_slice(&sample_bytes(*sample));
     }
     io::write_all(STDOUT, &out[..4 * samples.len()]);
 }
@@ -81,78 +65,46 @@ fn write_samples(samples: &[i32])
 fn probe(bytes: &[u8], set: Settings, fill: i32, samples: &mut [i32])
     requires { length samples.old ≤ 65536 }
 {
-    let mut i = 0;
-    while i < samples.len() {
-        samples[i] = fill;
-        i += 1;
-    }
+    samples.fill(fill);
     write_answer(frame::read_frame(bytes, set, samples));
     write_zeros(8);
     write_samples(samples);
 }
 
-// The number in four bytes.
-fn number_of(a: u8, b: u8, c: u8, d: u8) -> u32 {
-    probe_records::number_from_bytes(a, b, c, d) as u32
-}
-
 // The number in the four bytes from a place on.
-fn number_at(input: &[u8], at: usize) -> u32
-    requires { at + 4 ≤ length input.now }
+fn number_at(input: &[u8; 65568], at: usize) -> u32
+    requires { at ≤ 65564 }
 {
-    number_of(input[at], input[at + 1], input[at + 2], input[at + 3])
+    number_from_bytes(input[at], input[at + 1], input[at + 2], input[at + 3]) as u32
 }
 
-// The flag is 0 or 1.
-fn block_of(given: u8, size: u32) -> StreamBlock {
-    if given == 0 {
-        StreamBlock::Unknown
-    } else {
-        StreamBlock::Known(size as usize)
-    }
-}
-
-// The flag is 0 or 1.
-fn stream_of(given: u8, bits: u8, rate: u32) -> StreamRecord {
-    if given == 0 {
-        StreamRecord::Unknown
-    } else {
-        StreamRecord::Known(bits as u32, rate)
-    }
-}
-
-// Where the frame's bytes end. They start after the 32 bytes of the settings and rooms.
-fn end_of(n: usize) -> usize
+fn run(input: &[u8; 65568], n: usize, samples: &mut [i32; 65536])
     requires { n ≤ 65568 }
-    ensures { (32 ≤ result) × (result ≤ 65568) }
-{
-    if n < 32 { 32 } else { n }
-}
-
-fn run(input: &[u8], n: usize, samples: &mut [i32])
-    requires { (length input.now ≡ 65568) × ((n ≤ length input.now) × (length samples.old ≡ 65536)) }
 {
     let room = number_at(input, 0) as usize;
-    let fill = probe_records::sample_from_bytes(input[4], input[5], input[6], input[7]);
-    let block_given = input[8];
-    let stream_given = input[13];
+    let fill = sample_from_bytes(input[4], input[5], input[6], input[7]);
     let wide = number_at(input, 20) as usize;
-    if 65536 < room || 65536 < wide || 1 < block_given || 1 < stream_given {
+    if 65536 < room || 65536 < wide || 1 < input[8] || 1 < input[13] {
         io::write_all(STDOUT, &[11]);
         return;
     }
-    let set = Settings {
-        block: block_of(block_given, number_at(input, 9)),
-        stream: stream_of(stream_given, input[14], number_at(input, 15)),
+    let size = number_at(input, 9) as usize;
+    let record = StreamRecord {
+        bits: input[14] as u32,
+        rate: number_at(input, 15),
     };
-    let end = end_of(n);
-    probe(&input[32..end], set, fill, &mut samples[..room]);
+    let set = Settings {
+        block: (input[8] == 1).then_some(size),
+        stream: (input[13] == 1).then_some(record),
+    };
+    // The frame's bytes start after the 32 bytes of the settings and rooms.
+    probe(&input[32..n.max(32)], set, fill, &mut samples[..room]);
     write_zeros(wide);
 }
 
 fn main() {
-    let mut input = [0u8; 65568];
-    let mut samples = [0i32; 65536];
+    let mut input = [0; 65568];
+    let mut samples = [0; 65536];
     let n = io::read_full(STDIN, &mut input);
     run(&input, n, &mut samples);
 }
