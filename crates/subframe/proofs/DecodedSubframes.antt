@@ -8,7 +8,7 @@ use borrow.Author.Tests.{le-leb, lt-leb}
 use borrow.Rule.Slice.PartMut.{put_mid}
 use lib.IntN.{ℤ, pos, negsuc, one, *ℤ-one}
 use lib.ListN.{length, take, drop, get_or, set, replicate, length-set}
-use lib.Seq.{take-suc-set, drop-set-lt, drop-cons, append_snoc, take_all, drop-length, set-get_or}
+use lib.Seq.{take-suc-set, drop-set-lt, drop-cons, append_snoc, take_all, drop-length}
 use mir.Syntax.{w32}
 use mir.Val.{SFits, to_z, of_z}
 use mir.Facts.{to_z-of_z}
@@ -45,7 +45,7 @@ pub begin : (f : ℤ → ℤ) (l : List ℤ) → Mapped f l l 0
 begin f l = record { within = omega arith; long = refl; same = refl }
 
 module _ {f : ℤ → ℤ} {l₀ l : List ℤ} {i : ℕ} (inv : Mapped f l₀ l i) where
-  pub step : (z : ℤ) → i < length l → z ≡ f (get_or l i (pos 0)) → Mapped f l₀ (set l i z) (i + 1)
+  step : (z : ℤ) → i < length l → z ≡ f (get_or l i (pos 0)) → Mapped f l₀ (set l i z) (i + 1)
   step z h e = record {
     within = simp length-set (omega arith);
     long = simp length-set inv.long;
@@ -63,8 +63,8 @@ module _ {f : ℤ → ℤ} {l₀ l : List ℤ} {i : ℕ} (inv : Mapped f l₀ l 
   turn z h e g k = rw (to_z-of_z k) (step z h (e ∙ ap f (to_z-of_z g)))
 
   -- a value that stays as it is
-  pub kept : i < length l → get_or l i (pos 0) ≡ f (get_or l i (pos 0)) → Mapped f l₀ l (i + 1)
-  kept h e = rw set-get_or at (step (get_or l i (pos 0)) h e)
+  pub kept : i < length l → get_or l i (pos 0) ≡ f (get_or l i (pos 0)) → Mapped f l₀ (set l i (get_or l i (pos 0))) (i + 1)
+  kept h e = step (get_or l i (pos 0)) h e
 
   pub end : length l ≤ i → l ≡ map f l₀
   end h =

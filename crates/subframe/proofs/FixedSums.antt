@@ -18,12 +18,30 @@ use Rattle.subframe.proofs.PredictionSums.{reverse_at}
 -- ---- a row of coefficients, read from its end
 
 -- the code compares a coefficient by its bits
-pub coefficient_is : (l : List ℤ) (i : ℕ) {n : ℕ} {rest : List ℤ} → i < length l → SFits w32 (get_or l i (pos 0)) → of_z w32 (get_or l i (pos 0)) ≡ n
+coefficient_is : (l : List ℤ) (i : ℕ) {n : ℕ} {rest : List ℤ} → i < length l → SFits w32 (get_or l i (pos 0)) → of_z w32 (get_or l i (pos 0)) ≡ n
     → drop (suc i) l ≡ rest → drop i l ≡ to_z w32 n ∷ rest
 coefficient_is l i h f e d = drop-cons l i (pos 0) h ∙ ap₂ (λ (x : ℤ) (r : List ℤ). x ∷ r) (sym (to_z-of_z f) ∙ ap (to_z w32) e) d
 
-pub row-end : (l : List ℤ) (i : ℕ) → length l ≡ i → drop i l ≡ []
+row-end : (l : List ℤ) (i : ℕ) → length l ≡ i → drop i l ≡ []
 row-end l i e = drop_of_length-le l (let h : length l ≤ i = omega arith in h)
+
+module _ (l : List ℤ) (fit : (i : ℕ) → i < length l → SFits w32 (get_or l i (pos 0))) where
+  abbrev coefficient : ℕ → ℕ
+  coefficient i = of_z w32 (get_or l i (pos 0))
+
+  pub row_1 : length l ≡ 1 → coefficient 0 ≡ 1 → l ≡ fixed_coefficients 1
+  unfolding fixed_coefficients
+  row_1 n e = coefficient_is l 0 (omega arith) (fit 0 (omega arith)) e (row-end l 1 n)
+
+  pub row_2 : length l ≡ 2 → coefficient 0 ≡ 2 → coefficient 1 ≡ 2 ^ 32 - 1 → l ≡ fixed_coefficients 2
+  unfolding fixed_coefficients
+  row_2 n e f = coefficient_is l 0 (omega arith) (fit 0 (omega arith)) e (coefficient_is l 1 (omega arith) (fit 1 (omega arith)) f (row-end l 2 n))
+
+  pub row_3 : length l ≡ 3 → coefficient 0 ≡ 3 → coefficient 1 ≡ 2 ^ 32 - 3 → coefficient 2 ≡ 1 → l ≡ fixed_coefficients 3
+  unfolding fixed_coefficients
+  row_3 n e f g =
+      coefficient_is l 0 (omega arith) (fit 0 (omega arith)) e
+      (coefficient_is l 1 (omega arith) (fit 1 (omega arith)) f (coefficient_is l 2 (omega arith) (fit 2 (omega arith)) g (row-end l 3 n)))
 
 -- ---- multiples of a number
 

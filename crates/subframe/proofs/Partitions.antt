@@ -139,12 +139,12 @@ module _ {f : ℕ → Ask (List ℤ)} {size count : ℕ} {s : List ℕ} {at₀ :
         ∙ ap (λ n. run_at (f n) s at) (let e : start + size - start ≡ size = omega arith in e)
 
     -- a turn and the way out, by what the decoder of the part answered and left in it
-    pub step : {v : List ℤ} {q : Place} → got_at v q ≡ run_at (f (length (mid_of start part l))) s at → length v ≡ length (mid_of start part l)
-        → Parted f size count s at₀ l₀ (put_mid start part l v) (start + size) (left - 1) q
-    step {v} {q} e kept =
+    pub step : {less-left : ℕ} → less-left ≡ left - 1 → {v : List ℤ} {q : Place} → got_at v q ≡ run_at (f (length (mid_of start part l))) s at → length v ≡ length (mid_of start part l)
+        → Parted f size count s at₀ l₀ (put_mid start part l v) (start + size) less-left q
+    step d {v} {q} e kept =
         let got = sym (e ∙ ran) in
         let back = part-keeps-length v kept in
-        record {
+        rw d record {
           place = stays_in (f size) s at got;
           long = back;
           sized = omega (arith, less, back, inv.sized, inv.long);

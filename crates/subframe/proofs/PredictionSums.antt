@@ -1,24 +1,22 @@
 -- The sums of prediction: coefficients times the latest samples. Assumes nothing.
 use Prim.Native.Nat.{ℕ, zero, suc, ◌+◌, ◌-◌, ◌^◌, ◌≤◌, ◌<◌}
-use native.Mathlib.Nat.{sub-zero}
-use native.Mathlib.Numerals.{add-one}
 use native.Mathlib.Omega.{arith}
-use mathlib.Core.Path.{◌≡◌, refl, ap, ap₂, sym, ◌∙◌, subst}
+use mathlib.Core.Path.{◌≡◌, refl, ap, ap₂, sym, ◌∙◌}
 use mathlib.Core.Bool.{Bool, true, false}
 use mathlib.Core.List.{List, [], ◌∷◌, ◌++◌, reverse, reverse-cons, reverse-append}
 use borrow.Author.Tests.{ltb-true, ltb-false}
 use borrow.Rule.Slice.PartMut.{mid_len}
 use lib.Dec.{ltb, lit<}
 use lib.IntN.{ℤ, pos, nat_abs, ◌+ℤ◌, ◌*ℤ◌}
-use lib.ListN.{length, get_or, take, drop, set, replicate, length-append, length-reverse, get_or-append}
-use lib.Seq.{length-take-le, take-add, take_at, get_or-take, get_or-append-add, set_at, take-suc, take_all, append_snoc}
+use lib.ListN.{length, get_or, take, drop, length-reverse, get_or-append}
+use lib.Seq.{take-add, get_or-append-add}
 use mir.Syntax.{w32, w64}
 use mir.Val.{SFits, to_z, of_z}
 use mir.Facts.{to_z-of_z}
 use Rattle.number.specs.Private.{Small}
 use Rattle.number.proofs.ProductSums.{DotSoFar, room, coefficient, step, sample-fits_33}
 use Rattle.rfc9639.specs.Prediction.{dot, fixed_coefficients}
-use Rattle.subframe.specs.Private.{with_zeros, Predictable, Tapped, predicted_in_place, FixedOrder}
+use Rattle.subframe.specs.Private.{Predictable}
 
 -- ---- the latest sample first
 
@@ -62,75 +60,27 @@ dot-latest cs l m i h k g =
     late : List ℤ
     late = take (i - (i - m)) (drop (i - m) l)
 
--- ---- a loop over the products of the first `order` taps; the code passes a signed value by its bits
+-- ---- a loop over the products; the code passes a signed value by its bits
 
-module _ (taps before : List ℤ) {order acc j : ℕ} (inv : DotSoFar (take order taps) (reverse before) acc j) (fit : Tapped taps order before) (i : ℕ)
-    (next : j ≡ suc i) (c : SFits w32 (get_or taps i (pos 0))) where
-  enough : length (take order taps) ≤ length (reverse before)
+module _ (cs before : List ℤ) {acc j : ℕ} (inv : DotSoFar cs (reverse before) acc j) (fit : Predictable 32 cs before) (i : ℕ) (next : j ≡ suc i)
+    (c : SFits w32 (get_or cs i (pos 0))) where
+  enough : length cs ≤ length (reverse before)
   enough = omega (arith, length-reverse before)
 
-  tap : get_or (take order taps) i (pos 0) ≡ get_or taps i (pos 0)
-  tap = get_or-take order taps i (pos 0) (omega (arith, inv.within, length-take-le order taps fit.0))
-
-  pub mul_add-asks : (nat_abs (to_z w64 acc) < 2 ^ 62) × (nat_abs (to_z w32 (of_z w32 (get_or taps i (pos 0)))) < 2 ^ 15)
-  mul_add-asks = (room inv fit.1.0, rw (to_z-of_z c, ← tap) (coefficient inv fit.1.0 enough fit.1.2 i next))
+  pub mul_add-asks : (nat_abs (to_z w64 acc) < 2 ^ 62) × (nat_abs (to_z w32 (of_z w32 (get_or cs i (pos 0)))) < 2 ^ 15)
+  mul_add-asks = (room inv fit.0, rw (to_z-of_z c) (coefficient inv fit.0 enough fit.2 i next))
 
   pub turn : (k : ℕ) → k ≡ length before - 1 - i → SFits w32 (get_or before k (pos 0)) → (r : ℤ)
-      → r ≡ to_z w64 acc +ℤ to_z w32 (of_z w32 (get_or taps i (pos 0))) *ℤ to_z w32 (of_z w32 (get_or before k (pos 0))) → SFits w64 r
-      → DotSoFar (take order taps) (reverse before) (of_z w64 r) i
+      → r ≡ to_z w64 acc +ℤ to_z w32 (of_z w32 (get_or cs i (pos 0))) *ℤ to_z w32 (of_z w32 (get_or before k (pos 0))) → SFits w64 r
+      → DotSoFar cs (reverse before) (of_z w64 r) i
   turn k e f r h g =
-      step inv fit.1.0 enough fit.1.2 i next r
-      (h ∙ ap₂ (λ (a b : ℤ). to_z w64 acc +ℤ a *ℤ b) (to_z-of_z c ∙ sym tap) (to_z-of_z f ∙ sym there)) (rw there (sample-fits_33 f)) g
+      step inv fit.0 enough fit.2 i next r (h ∙ ap₂ (λ (a b : ℤ). to_z w64 acc +ℤ a *ℤ b) (to_z-of_z c) (to_z-of_z f ∙ sym there))
+      (rw there (sample-fits_33 f)) g
     where
       there : get_or (reverse before) i (pos 0) ≡ get_or before k (pos 0)
       there = reverse_at before i (omega (arith, inv.within)) ∙ ap (λ n. get_or before n (pos 0)) (sym e)
 
--- ---- the coefficients padded with zeros, of which the first j are stored
-
-pub record Padding (n : ℕ) (cs l : List ℤ) (j : ℕ) : Type 0 where
-  pub within : j ≤ length cs
-  pub same : l ≡ take j cs ++ replicate (n - j) (pos 0)
-
-pub pad-begin : (n : ℕ) (cs : List ℤ) → Padding n cs (replicate n (pos 0)) 0
-pad-begin n cs = record { within = omega arith; same = ap (λ m. replicate m (pos 0)) (sym (sub-zero n)) }
-
-module _ {n : ℕ} {cs l : List ℤ} {j : ℕ} (inv : Padding n cs l j) where
-  pub pad-step : length cs ≤ n → j < length cs → Padding n cs (set l j (get_or cs j (pos 0))) (j + 1)
-  pad-step h k = record {
-    within = omega arith;
-    same =
-        ap (λ (t : List ℤ). set t j c) (inv.same ∙ ap (λ m. take j cs ++ replicate m (pos 0)) (let e : n - j ≡ suc (n - (j + 1)) = omega arith in e))
-        ∙ set_at (take j cs) (pos 0) (replicate (n - (j + 1)) (pos 0)) c j (length-take-le j cs inv.within)
-        ∙ sym (append_snoc (take j cs) c (replicate (n - (j + 1)) (pos 0)))
-        ∙ ap (λ (t : List ℤ). t ++ replicate (n - (j + 1)) (pos 0)) (sym (take-suc cs j (pos 0) k) ∙ ap (λ m. take m cs) (sym (add-one j)));
-  }
-    where
-      c : ℤ
-      c = get_or cs j (pos 0)
-
-  pub pad-end : length cs ≤ j → l ≡ with_zeros n cs
-  pad-end h =
-      inv.same ∙ ap₂ (λ (t : List ℤ) m. t ++ replicate m (pos 0)) (take_all j cs h) (let e : n - j ≡ n - length cs = omega (arith, inv.within) in e)
-
--- the coefficients are the first taps
-module _ (cs block : List ℤ) {taps : List ℤ} {n : ℕ} (is : taps ≡ with_zeros 32 cs) (long : length cs ≡ n) where
-  first_taps : take n taps ≡ cs
-  first_taps = ap (take n) is ∙ take_at cs (replicate (32 - length cs) (pos 0)) n long
-
-  pub taps_ask : Predictable 32 cs block → Tapped taps n block
-  taps_ask fit = (rw is (omega (arith, length-append cs (replicate (32 - length cs) (pos 0)))), rw first_taps fit)
-
-  pub taps_promise : (shift : ℕ) {out : List ℤ} → out ≡ predicted_in_place (take n taps) shift block → out ≡ predicted_in_place cs shift block
-  taps_promise shift e = rw first_taps at e
-
--- ---- the arms of a match on the order
-
-module _ (taps block : List ℤ) {n k : ℕ} (e : n ≡ k) where
-  pub arm_ask : Tapped taps n block → Tapped taps k block
-  arm_ask = subst (λ m. Tapped taps m block) e
-
-  pub arm_promise : (shift : ℕ) {out : List ℤ} → out ≡ predicted_in_place (take k taps) shift block → out ≡ predicted_in_place (take n taps) shift block
-  arm_promise shift {out} = subst (λ m. out ≡ predicted_in_place (take m taps) shift block) (sym e)
+-- ---- the last arm of a match on the order
 
 -- none of k orders from the least on
 abbrev pub Others : ℕ → ℕ → ℕ → Type 0
@@ -155,15 +105,3 @@ fixed-row (suc (suc zero)) h = (refl, (lit< tt, (lit< tt, tt)))
 fixed-row (suc (suc (suc zero))) h = (refl, (lit< tt, (lit< tt, (lit< tt, tt))))
 fixed-row (suc (suc (suc (suc zero)))) h = (refl, (lit< tt, (lit< tt, (lit< tt, (lit< tt, tt)))))
 fixed-row (suc (suc (suc (suc (suc n))))) h = absurd (omega arith)
-
--- an order that `fixed_order` found
-module _ (cs : List ℤ) (shift : ℕ) (block : List ℤ) {r : ℕ} (n : ℕ) (o : FixedOrder r cs shift) (e : r ≡ suc n) where
-  found : FixedOrder (suc n) cs shift
-  found = rw e at o
-
-  pub fixed-ask : length cs ≤ length block → (1 ≤ suc n) × (suc n ≤ 3) × (suc n ≤ length block)
-  fixed-ask h =
-      let k = found.0 in (omega arith, k, omega (arith, ap length found.1, (fixed-row (suc n) (let g : suc n ≤ 4 = omega arith in g)).0))
-
-  pub fixed_promise : {out : List ℤ} → out ≡ predicted_in_place (fixed_coefficients (suc n)) 0 block → out ≡ predicted_in_place cs shift block
-  fixed_promise d = rw (found.1, found.2) d

@@ -25,7 +25,7 @@ use Rattle.input.proofs.Callers.{word_at-byte}
 use Rattle.rfc9639.specs.Residual.{folded, unfolded, rice}
 use Rattle.error.specs.declared.Refusal.{Refusal}
 use Rattle.error.specs.Numbers.{refused_by}
-use Rattle.subframe.specs.declared.answers.BitOffset.{BitOffset}
+use Rattle.subframe.specs.declared.bit_offset.BitOffset.{BitOffset}
 use Rattle.subframe.specs.Private.{place_after, rice_read_at, StartsInWord}
 use Rattle.subframe.proofs.SampleReaders.{rice-parts}
 

@@ -1,6 +1,6 @@
 -- What the answers of the private functions mean in the definition, and what these functions ask of each other. Only
 -- contracts of private functions name it, so nobody has to believe it.
-use Rattle.std.specs.Prelude.{ℕ, zero, suc, ◌+◌, ◌-◌, ◌*◌, ◌^◌, ◌≤◌, ◌<◌, ◌≡◌, List, ◌++◌, ℤ, pos, length, take, drop, replicate, Result, Ok, Err}
+use Rattle.std.specs.Prelude.{ℕ, ◌+◌, ◌*◌, ◌^◌, ◌≤◌, ◌<◌, List, ℤ, length, take, drop, Result, Ok, Err}
 use Rattle.reading.specs.declared.Place.{Place}
 use Rattle.reading.specs.Readers.{Ask, done, stop, ◌>>=◌}
 use Rattle.reading.specs.Places.{At, got_at, place_of}
@@ -10,9 +10,9 @@ use Rattle.number.specs.Private.{Small}
 use Rattle.rfc9639.specs.declared.SubframeType.{SubframeType}
 use Rattle.rfc9639.specs.declared.SubframeType.TheVariants.{Constant, Verbatim, Fixed, Lpc}
 use Rattle.rfc9639.specs.Residual.{residual}
-use Rattle.rfc9639.specs.Prediction.{predict, fixed_coefficients}
+use Rattle.rfc9639.specs.Prediction.{predict}
 use Rattle.rfc9639.specs.Subframe.{lpc_after_shift}
-use Rattle.subframe.specs.declared.answers.BitOffset.{BitOffset}
+use Rattle.subframe.specs.declared.bit_offset.BitOffset.{BitOffset}
 
 -- ---- the header
 
@@ -36,10 +36,6 @@ Orderly (Lpc k) = k ≤ 32
 abbrev pub Quantization : Type 0
 Quantization = ℕ × ℕ
 
--- padded with zeros to n
-abbrev pub with_zeros : ℕ → List ℤ → List ℤ
-with_zeros n xs = xs ++ replicate (n - length xs) (pos 0)
-
 -- ---- one residual
 
 -- the place so many bits after a byte
@@ -61,18 +57,9 @@ StartsInWord (Err e) = Unit {0}
 abbrev pub Predictable : ℕ → List ℤ → List ℤ → Type 0
 Predictable most coefficients block = (length coefficients ≤ most) × (length coefficients ≤ length block) × Small (2 ^ 15) coefficients
 
--- the first taps, as many as the order, are coefficients for the block
-abbrev pub Tapped : List ℤ → ℕ → List ℤ → Type 0
-Tapped taps order block = (order ≤ length taps) × Predictable 32 (take order taps) block
-
 -- a block that holds its warm-up samples and its residual, with the residual replaced by the samples
 abbrev pub predicted_in_place : List ℤ → ℕ → List ℤ → List ℤ
 predicted_in_place coefficients shift block = predict coefficients shift (take (length coefficients) block) (drop (length coefficients) block)
-
--- an order from 1 to 3 is that of the fixed predictor that the coefficients and the shift make; 0 says nothing
-abbrev pub FixedOrder : ℕ → List ℤ → ℕ → Type 0
-FixedOrder zero coefficients shift = Unit {0}
-FixedOrder (suc n) coefficients shift = (suc n ≤ 3) × (coefficients ≡ fixed_coefficients (suc n)) × (shift ≡ 0)
 
 -- what follows the coefficients, for a block that starts with its warm-up samples
 abbrev pub predicted_block : List ℤ → ℕ → List ℤ → Ask (List ℤ)

@@ -2,7 +2,7 @@
 // the place after the channel or why it is refused. It leaves the samples of the definition in the caller's slice, or zeros where it refuses.
 #![tactic(auto)]
 
-mod answers;
+mod bit_offset;
 mod header;
 mod predict;
 mod residual;
@@ -26,7 +26,7 @@ fn decode_constant(s: &[u8], at: Place, width: u32, out: &mut [i32]) -> Result<P
     ensures { samples_at result out.new ≡ run_at (samples_by_type SubframeType.Constant width (length out.old)) s.now at }
 {
     let (x, p) = read_sample(s, at, width)?;
-    block::fill(out, x);
+    out.fill(x);
     Ok(p)
 }
 
@@ -118,17 +118,15 @@ fn decode_kind(
 }
 
 // Puts the wasted bits back, as zeros (RFC 9639 section 9.2.2). Mostly there are none, and no sample is written: the
-// compiler then leaves the loop out.
+// compiler then leaves the loop out. The test is in the loop since only a sample that was read is known to fit 32 bits.
 fn shift_all(out: &mut [i32], wasted: u32)
     ensures { out.new ≡ map (shift_up wasted) out.old }
 {
-    let mut i = 0;
-    while i < out.len() {
-        let x = out[i];
+    for x in out.iter_mut() {
+        let stored = *x;
         if wasted != 0 {
-            out[i] = number::shift_up(x, wasted);
+            *x = number::shift_up(stored, wasted);
         }
-        i += 1;
     }
 }
 
@@ -143,16 +141,14 @@ fn decode_after_header(
     requires { (width ≤ 32) × Orderly h.kind × (h.wasted ≤ width) }
     ensures { samples_at result out.new ≡ run_at (subframe_after_header (length out.old) width h) s.now at }
 {
-    let kind = h.kind;
-    let wasted = h.wasted;
     if !reading::is_inside(s, at) {
         return Err(Refusal::CutShort);
     }
-    if out.len() < order_of(kind) {
+    if out.len() < order_of(h.kind) {
         return Err(Refusal::BadShape);
     }
-    let p = decode_kind(s, at, kind, width - wasted, out)?;
-    shift_all(out, wasted);
+    let p = decode_kind(s, at, h.kind, width - h.wasted, out)?;
+    shift_all(out, h.wasted);
     Ok(p)
 }
 
@@ -173,7 +169,7 @@ pub fn decode(s: &[u8], at: Place, width: u32, out: &mut [i32]) -> Result<Place,
 {
     let decoded = decode_subframe(s, at, width, out);
     if decoded.is_err() {
-        block::fill(out, 0);
+        out.fill(0);
     }
     decoded
 }

@@ -3,7 +3,7 @@
 ghost use Rattle.std.specs.Prelude.{◌≡◌, reverse, ◌^◌, ◌≤◌, ◌<◌, pos, nat_abs, ◌+ℤ◌, ◌*ℤ◌, length, take};
 ghost use Rattle.rfc9639.specs.Prediction.{dot as dot_of, fixed_coefficients};
 ghost use Rattle.rfc9639.specs.Integers.{wrapped, shift_down};
-ghost use Rattle.subframe.specs.Private.{with_zeros, Predictable, Tapped, predicted_in_place, FixedOrder};
+ghost use Rattle.subframe.specs.Private.{Predictable, predicted_in_place};
 
 fn mul_add(sum: i64, c: i32, x: i32) -> i64
     requires { (nat_abs sum < 2 ^ 62) × (nat_abs c < 2 ^ 15) }
@@ -20,148 +20,82 @@ fn restore(sum: i64, shift: u32, residual: i32) -> i32
     number::low32(number::shift_down(sum, shift) + residual as i64)
 }
 
-// The coefficients in an array of their own, padded with zeros: nothing that is stored into a block can change them, so
-// they stay in registers.
-fn taps_of(coefficients: &[i32]) -> [i32; 32]
-    requires { length coefficients.now ≤ 32 }
-    ensures { result ≡ with_zeros 32 coefficients.now }
-{
-    let mut taps = [0i32; 32];
-    let mut j = 0;
-    while j < coefficients.len() {
-        taps[j] = coefficients[j];
-        j += 1;
-    }
-    taps
-}
-
-// The sum of the products of the first `order` taps and the latest samples. The latest sample comes last, since the
-// others are known before it.
-fn dot(taps: &[i32; 32], order: usize, before: &[i32]) -> i64
-    requires { Tapped taps.now order before.now }
-    ensures { (result ≡ dot_of (pos 0) (take order taps.now) (reverse before.now)) × (nat_abs result < 2 ^ 62) }
+// The sum of the products of the coefficients and the latest samples. The latest sample comes last, since the others are
+// known before it.
+fn dot<const N: usize>(coefficients: &[i32; N], before: &[i32]) -> i64
+    requires { Predictable 32 coefficients.now before.now }
+    ensures { (result ≡ dot_of (pos 0) coefficients.now (reverse before.now)) × (nat_abs result < 2 ^ 62) }
 {
     let mut sum: i64 = 0;
-    let mut j = order;
-    while 0 < j {
-        j -= 1;
-        sum = mul_add(sum, taps[j], before[before.len() - 1 - j]);
+    for j in (0..N).rev() {
+        sum = mul_add(sum, coefficients[j], before[before.len() - 1 - j]);
     }
     sum
 }
 
-// By the first `order` taps. Each call has a constant for the order, so the sum of each sample is straight code.
-fn predict_by_taps(taps: &[i32; 32], order: usize, shift: u32, out: &mut [i32])
-    requires { Tapped taps.now order out.old }
-    ensures { out.new ≡ predicted_in_place (take order taps.now) shift out.old }
+// By N coefficients. N is a constant, so the sum of each sample is straight code. The coefficients are copied into an
+// array of their own: nothing that is stored into a block can change them, so they stay in registers.
+fn predict_by_taps<const N: usize>(coefficients: &[i32], shift: u32, out: &mut [i32])
+    requires { (length coefficients.now ≡ N) × Predictable 32 coefficients.now out.old }
+    ensures { out.new ≡ predicted_in_place coefficients.now shift out.old }
 {
-    let mut i = order;
-    while i < out.len() {
-        let sum = dot(taps, order, &out[i - order..i]);
+    let mut taps = [0i32; N];
+    taps.copy_from_slice(coefficients);
+    for i in N..out.len() {
+        let sum = dot(&taps, &out[i - N..i]);
         out[i] = restore(sum, shift, out[i]);
-        i += 1;
-    }
-}
-
-// By an order of at most 12, as a constant.
-fn predict_to_12(taps: &[i32; 32], order: usize, shift: u32, out: &mut [i32])
-    requires { (order ≤ 12) × Tapped taps.now order out.old }
-    ensures { out.new ≡ predicted_in_place (take order taps.now) shift out.old }
-{
-    match order {
-        0 => predict_by_taps(taps, 0, shift, out),
-        1 => predict_by_taps(taps, 1, shift, out),
-        2 => predict_by_taps(taps, 2, shift, out),
-        3 => predict_by_taps(taps, 3, shift, out),
-        4 => predict_by_taps(taps, 4, shift, out),
-        5 => predict_by_taps(taps, 5, shift, out),
-        6 => predict_by_taps(taps, 6, shift, out),
-        7 => predict_by_taps(taps, 7, shift, out),
-        8 => predict_by_taps(taps, 8, shift, out),
-        9 => predict_by_taps(taps, 9, shift, out),
-        10 => predict_by_taps(taps, 10, shift, out),
-        11 => predict_by_taps(taps, 11, shift, out),
-        _ => predict_by_taps(taps, 12, shift, out),
     }
 }
 
 // For an order of at most 12, as in nearly all streams.
-fn predict_lpc_low_order(coefficients: &[i32], shift: u32, out: &mut [i32])
+fn predict_to_12(coefficients: &[i32], shift: u32, out: &mut [i32])
     requires { Predictable 12 coefficients.now out.old }
     ensures { out.new ≡ predicted_in_place coefficients.now shift out.old }
 {
-    let taps = taps_of(coefficients);
-    predict_to_12(&taps, coefficients.len(), shift, out);
-}
-
-// By an order from 13 to 32, as a constant.
-fn predict_to_32(taps: &[i32; 32], order: usize, shift: u32, out: &mut [i32])
-    requires { (12 < order) × Tapped taps.now order out.old }
-    ensures { out.new ≡ predicted_in_place (take order taps.now) shift out.old }
-{
-    match order {
-        13 => predict_by_taps(taps, 13, shift, out),
-        14 => predict_by_taps(taps, 14, shift, out),
-        15 => predict_by_taps(taps, 15, shift, out),
-        16 => predict_by_taps(taps, 16, shift, out),
-        17 => predict_by_taps(taps, 17, shift, out),
-        18 => predict_by_taps(taps, 18, shift, out),
-        19 => predict_by_taps(taps, 19, shift, out),
-        20 => predict_by_taps(taps, 20, shift, out),
-        21 => predict_by_taps(taps, 21, shift, out),
-        22 => predict_by_taps(taps, 22, shift, out),
-        23 => predict_by_taps(taps, 23, shift, out),
-        24 => predict_by_taps(taps, 24, shift, out),
-        25 => predict_by_taps(taps, 25, shift, out),
-        26 => predict_by_taps(taps, 26, shift, out),
-        27 => predict_by_taps(taps, 27, shift, out),
-        28 => predict_by_taps(taps, 28, shift, out),
-        29 => predict_by_taps(taps, 29, shift, out),
-        30 => predict_by_taps(taps, 30, shift, out),
-        31 => predict_by_taps(taps, 31, shift, out),
-        _ => predict_by_taps(taps, 32, shift, out),
+    match coefficients.len() {
+        0 => predict_by_taps::<0>(coefficients, shift, out),
+        1 => predict_by_taps::<1>(coefficients, shift, out),
+        2 => predict_by_taps::<2>(coefficients, shift, out),
+        3 => predict_by_taps::<3>(coefficients, shift, out),
+        4 => predict_by_taps::<4>(coefficients, shift, out),
+        5 => predict_by_taps::<5>(coefficients, shift, out),
+        6 => predict_by_taps::<6>(coefficients, shift, out),
+        7 => predict_by_taps::<7>(coefficients, shift, out),
+        8 => predict_by_taps::<8>(coefficients, shift, out),
+        9 => predict_by_taps::<9>(coefficients, shift, out),
+        10 => predict_by_taps::<10>(coefficients, shift, out),
+        11 => predict_by_taps::<11>(coefficients, shift, out),
+        _ => predict_by_taps::<12>(coefficients, shift, out),
     }
 }
 
 // For an order above 12.
-fn predict_lpc_high_order(coefficients: &[i32], shift: u32, out: &mut [i32])
+fn predict_to_32(coefficients: &[i32], shift: u32, out: &mut [i32])
     requires { (12 < length coefficients.now) × Predictable 32 coefficients.now out.old }
     ensures { out.new ≡ predicted_in_place coefficients.now shift out.old }
 {
-    let taps = taps_of(coefficients);
-    predict_to_32(&taps, coefficients.len(), shift, out);
-}
-
-// The order, from 1 to 3, of the fixed predictor that has these coefficients and this shift, or 0 for any other.
-fn fixed_order(coefficients: &[i32], shift: u32) -> usize
-    ensures { FixedOrder result coefficients.now shift }
-{
-    let n = coefficients.len();
-    if shift != 0 {
-        return 0;
+    match coefficients.len() {
+        13 => predict_by_taps::<13>(coefficients, shift, out),
+        14 => predict_by_taps::<14>(coefficients, shift, out),
+        15 => predict_by_taps::<15>(coefficients, shift, out),
+        16 => predict_by_taps::<16>(coefficients, shift, out),
+        17 => predict_by_taps::<17>(coefficients, shift, out),
+        18 => predict_by_taps::<18>(coefficients, shift, out),
+        19 => predict_by_taps::<19>(coefficients, shift, out),
+        20 => predict_by_taps::<20>(coefficients, shift, out),
+        21 => predict_by_taps::<21>(coefficients, shift, out),
+        22 => predict_by_taps::<22>(coefficients, shift, out),
+        23 => predict_by_taps::<23>(coefficients, shift, out),
+        24 => predict_by_taps::<24>(coefficients, shift, out),
+        25 => predict_by_taps::<25>(coefficients, shift, out),
+        26 => predict_by_taps::<26>(coefficients, shift, out),
+        27 => predict_by_taps::<27>(coefficients, shift, out),
+        28 => predict_by_taps::<28>(coefficients, shift, out),
+        29 => predict_by_taps::<29>(coefficients, shift, out),
+        30 => predict_by_taps::<30>(coefficients, shift, out),
+        31 => predict_by_taps::<31>(coefficients, shift, out),
+        _ => predict_by_taps::<32>(coefficients, shift, out),
     }
-    if n == 1 {
-        if coefficients[0] == 1 {
-            return 1;
-        }
-    }
-    if n == 2 {
-        if coefficients[0] == 2 {
-            if coefficients[1] == -1 {
-                return 2;
-            }
-        }
-    }
-    if n == 3 {
-        if coefficients[0] == 3 {
-            if coefficients[1] == -3 {
-                if coefficients[2] == 1 {
-                    return 3;
-                }
-            }
-        }
-    }
-    0
 }
 
 // The sum of the products of a fixed predictor of order 1 to 3 (RFC 9639 section 9.2.5), by sums and differences.
@@ -187,11 +121,9 @@ fn predict_fixed(order: usize, out: &mut [i32])
     requires { (1 ≤ order) × (order ≤ 3) × (order ≤ length out.old) }
     ensures { out.new ≡ predicted_in_place (fixed_coefficients order) 0 out.old }
 {
-    let mut i = order;
-    while i < out.len() {
+    for i in order..out.len() {
         let sum = fixed_sum(order, &out[i - order..i]);
         out[i] = restore(sum, 0, out[i]);
-        i += 1;
     }
 }
 
@@ -201,17 +133,12 @@ pub fn predict_lpc(coefficients: &[i32], shift: u32, out: &mut [i32])
     requires { Predictable 32 coefficients.now out.old }
     ensures { out.new ≡ predicted_in_place coefficients.now shift out.old }
 {
-    match fixed_order(coefficients, shift) {
-        1 => predict_fixed(1, out),
-        2 => predict_fixed(2, out),
-        3 => predict_fixed(3, out),
-        _ => {
-            if coefficients.len() <= 12 {
-                predict_lpc_low_order(coefficients, shift, out);
-            } else {
-                predict_lpc_high_order(coefficients, shift, out);
-            }
-        }
+    match coefficients {
+        [1] if shift == 0 => predict_fixed(1, out),
+        [2, -1] if shift == 0 => predict_fixed(2, out),
+        [3, -3, 1] if shift == 0 => predict_fixed(3, out),
+        _ if coefficients.len() <= 12 => predict_to_12(coefficients, shift, out),
+        _ => predict_to_32(coefficients, shift, out),
     }
 }
 
@@ -220,17 +147,11 @@ pub fn fixed_coefficients(order: usize) -> [i32; 4]
     requires { order ≤ 4 }
     ensures { take order result ≡ fixed_coefficients order }
 {
-    if order == 0 {
-        return [0, 0, 0, 0];
+    match order {
+        0 => [0, 0, 0, 0],
+        1 => [1, 0, 0, 0],
+        2 => [2, -1, 0, 0],
+        3 => [3, -3, 1, 0],
+        _ => [4, -6, 4, -1],
     }
-    if order == 1 {
-        return [1, 0, 0, 0];
-    }
-    if order == 2 {
-        return [2, -1, 0, 0];
-    }
-    if order == 3 {
-        return [3, -3, 1, 0];
-    }
-    [4, -6, 4, -1]
 }

@@ -9,7 +9,7 @@ ghost use Rattle.error.specs.Answers.{read_at};
 ghost use Rattle.subframe.specs.Answers.{samples_at};
 ghost use Rattle.subframe.specs.Private.{place_after, rice_read_at, StartsInWord};
 
-use super::answers::BitOffset;
+use super::bit_offset::BitOffset;
 use error::{Read, Refusal};
 use reading::Place;
 
@@ -30,12 +30,8 @@ pub fn decode_verbatim(s: &[u8], at: Place, width: u32, out: &mut [i32]) -> Resu
         return Err(Refusal::CutShort);
     }
     let mut p = at;
-    let mut i = 0;
-    while i < out.len() {
-        let (x, next) = read_sample(s, p, width)?;
-        out[i] = x;
-        p = next;
-        i += 1;
+    for x in out.iter_mut() {
+        (*x, p) = read_sample(s, p, width)?;
     }
     Ok(p)
 }
@@ -58,30 +54,13 @@ fn read_long_rice(s: &[u8], at: Place, k: u32) -> Read<i32>
     Ok((signed::unfold(folded(q, r, k)), next))
 }
 
-// Whole bytes of the bits go to the byte.
-fn place_at(at: BitOffset) -> Place
-    requires { (at.byte < 2 ^ 63) × (at.bits < 64) }
-    ensures { result ≡ place_after at }
-{
-    Place {
-        byte: at.byte + at.bits / 8,
-        bit: at.bits % 8,
-    }
-}
-
 // The same at the place so many bits after a byte.
 fn read_any_rice(s: &[u8], at: BitOffset, k: u32) -> Result<(i32, BitOffset), Refusal>
     requires { (k ≤ 31) × (at.byte ≤ length s.now) × (at.bits < 64) }
     ensures { (rice_read_at result ≡ run_at (rice k) s.now (place_after at)) × StartsInWord result }
 {
-    let (x, p) = read_long_rice(s, place_at(at), k)?;
-    Ok((
-        x,
-        BitOffset {
-            byte: p.byte,
-            bits: p.bit,
-        },
-    ))
+    let (x, p) = read_long_rice(s, at.place(), k)?;
+    Ok((x, BitOffset::from(p)))
 }
 
 // The residual whose code's first 1 bit is bit `top` of a word, where bit 63 is the first: 63 - top zeros come before
@@ -101,21 +80,19 @@ fn read_rice(s: &[u8], at: BitOffset, k: u32) -> Result<(i32, BitOffset), Refusa
     requires { (k ≤ 31) × (at.byte ≤ length s.now) × (at.bits < 64) }
     ensures { (rice_read_at result ≡ run_at (rice k) s.now (place_after at)) × StartsInWord result }
 {
-    let byte = at.byte;
-    let bits = at.bits;
-    let w = input::word_from(s, byte) << bits;
+    let w = input::word_from(s, at.byte) << at.bits;
     if w == 0 {
         return read_any_rice(s, at, k);
     }
-    let top = 63 - u64::leading_zeros(w);
-    if top as usize <= bits + k as usize {
+    let top = 63 - w.leading_zeros();
+    if top as usize <= at.bits + k as usize {
         return read_any_rice(s, at, k);
     }
     Ok((
         code_at_top(w, top, k),
         BitOffset {
-            byte: byte + bits / 8,
-            bits: (bits % 8 + k as usize + 64) - top as usize,
+            byte: at.byte + at.bits / 8,
+            bits: (at.bits % 8 + k as usize + 64) - top as usize,
         },
     ))
 }
@@ -128,17 +105,11 @@ fn decode_rice(s: &[u8], at: Place, k: u32, out: &mut [i32]) -> Result<Place, Re
     if !reading::is_inside(s, at) {
         return Err(Refusal::CutShort);
     }
-    let byte = at.byte;
-    let bits = at.bit;
-    let mut p = BitOffset { byte, bits };
-    let mut i = 0;
-    while i < out.len() {
-        let (x, next) = read_rice(s, p, k)?;
-        out[i] = x;
-        p = next;
-        i += 1;
+    let mut p = BitOffset::from(at);
+    for x in out.iter_mut() {
+        (*x, p) = read_rice(s, p, k)?;
     }
-    Ok(place_at(p))
+    Ok(p.place())
 }
 
 // An escaped partition (RFC 9639 section 9.2.7.1): a width, then as many residuals of it as `out` has.
@@ -178,12 +149,10 @@ fn decode_equal_partitions(
     }
     let mut p = at;
     let mut start = 0;
-    let mut left = count;
-    while 0 < left {
+    for _ in 0..count {
         let end = start + size;
         p = decode_partition(s, p, method, &mut out[start..end])?;
         start = end;
-        left -= 1;
     }
     Ok(p)
 }

@@ -10,17 +10,17 @@ use Rattle.rfc9639.specs.Integers.{shift_up}
 use Rattle.subframe.proofs.shift_all.Goals as goal
 use Rattle.subframe.proofs.shift_all.Goals.{then-wasted-ne0, else-wasted-ne0}
 
-pub loop-i-init : goal.loop-i-init
-loop-i-init c = begin _ _
+pub loop-x-init : goal.loop-x-init
+loop-x-init c = begin _ _
 
-pub loop-i-preserved : goal.loop-i-preserved
-loop-i-preserved c =
-    let l = c.loop-i in
+pub loop-x-preserved : goal.loop-x-preserved
+loop-x-preserved c =
+    let l = c.loop-x in
     let a = c.args in
     elim c.if-wasted-ne0.branch [
-      | then-wasted-ne0 w ↦ subst (λ (x : List ℤ). Mapped (shift_up a.wasted) a.out.now x (l.i + 1)) (sym w.out-is) (turn l.invariant _ (omega arith) w.shift_up.ensures (search rules) (record { sfits = w.shift_up.type_inv }))
-      | else-wasted-ne0 w ↦ subst (λ (x : List ℤ). Mapped (shift_up a.wasted) a.out.now x (l.i + 1)) (sym w.out-is) (kept l.invariant (omega arith) (shift_none (omega (arith, w.if-wasted-ne0.false)) (search rules)))
+      | then-wasted-ne0 w ↦ subst (λ (x : List ℤ). Mapped (shift_up a.wasted) a.out.now x (l.x-index + 1)) (sym w.out-is) (turn l.invariant _ (omega arith) w.shift_up.ensures (search rules) (record { sfits = w.shift_up.type_inv }))
+      | else-wasted-ne0 w ↦ subst (λ (x : List ℤ). Mapped (shift_up a.wasted) a.out.now x (l.x-index + 1)) (sym w.out-is) (kept l.invariant (omega arith) (shift_none (omega (arith, w.if-wasted-ne0.false)) (search rules)))
     ]
 
 pub returns : goal.returns
-returns c = end c.loop-i.invariant (omega arith)
+returns c = end c.loop-x.invariant (omega arith)

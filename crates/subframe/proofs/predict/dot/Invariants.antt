@@ -4,12 +4,8 @@ use mathlib.Core.Path.{◌≡◌}
 use mir.Syntax.{w64}
 use mir.Val.{to_z}
 use mathlib.Core.List.{reverse}
-use lib.ListN.{take}
 use Rattle.number.proofs.ProductSums.{DotSoFar}
 use Rattle.subframe.proofs.predict.dot.Given as goal
 
 abbrev pub invariant-loop-j : goal.invariant-loop-j
-invariant-loop-j l = (acc : ℕ) × (l.sum ≡ to_z w64 acc) × DotSoFar (take l.order l.taps) (reverse l.before) acc l.j
-
-abbrev pub decreases-loop-j : goal.decreases-loop-j
-decreases-loop-j l = l.j
+invariant-loop-j g l = (acc : ℕ) × (l.sum ≡ to_z w64 acc) × DotSoFar l.coefficients (reverse l.before) acc l.j

@@ -4,22 +4,22 @@ use mathlib.Core.Path.{◌≡◌}
 use Rattle.rfc9639.specs.Prediction.{fixed_coefficients}
 use Rattle.subframe.proofs.predict.fixed_coefficients.Goals as goal
 
-pub returns-then-order-eq0 : goal.returns-then-order-eq0
+pub returns-in-0 : goal.returns-in-0
 unfolding fixed_coefficients
-returns-then-order-eq0 c = rw c.if-order-eq0.true
+returns-in-0 c = rw c.in-0.is
 
-pub returns-then-order-eq1 : goal.returns-then-order-eq1
+pub returns-in-1 : goal.returns-in-1
 unfolding fixed_coefficients
-returns-then-order-eq1 c = rw c.if-order-eq1.true
+returns-in-1 c = rw c.in-1.is
 
-pub returns-then-order-eq2 : goal.returns-then-order-eq2
+pub returns-in-2 : goal.returns-in-2
 unfolding fixed_coefficients
-returns-then-order-eq2 c = rw c.if-order-eq2.true
+returns-in-2 c = rw c.in-2.is
 
-pub returns-then-order-eq3 : goal.returns-then-order-eq3
+pub returns-in-3 : goal.returns-in-3
 unfolding fixed_coefficients
-returns-then-order-eq3 c = rw c.if-order-eq3.true
+returns-in-3 c = rw c.in-3.is
 
-pub returns : goal.returns
+pub returns-in_default : goal.returns-in_default
 unfolding fixed_coefficients
-returns c = let e : c.args.order ≡ 4 = omega arith in rw e
+returns-in_default c = let e : c.args.order ≡ 4 = omega arith in rw e

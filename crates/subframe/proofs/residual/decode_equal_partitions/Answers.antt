@@ -1,4 +1,5 @@
 -- `decode_equal_partitions`: each turn decodes one partition into its part of the slice (Parted). Assumes nothing.
+use native.Mathlib.Nat.{sub-zero}
 use native.Mathlib.Omega.{arith}
 use mathlib.Core.Path.{sym, ◌∙◌}
 use Rattle.reading.proofs.ByteRuns.{inside_in, run_at-out}
@@ -8,27 +9,27 @@ use Rattle.subframe.proofs.residual.decode_equal_partitions.Goals as goal
 pub returns-then-not-is_inside : goal.returns-then-not-is_inside
 returns-then-not-is_inside c = sym (run_at-out _ _ _ (sym c.is_inside.ensures ∙ c.if-not-is_inside.true))
 
-pub loop-left-init : goal.loop-left-init
-loop-left-init c = begin _ _ _ _ (inside_in _ _ (sym c.is_inside.ensures ∙ c.if-not-is_inside.false)) c.requires.1
+pub loop-init : goal.loop-init
+loop-init c = rw sub-zero (begin _ _ _ _ (inside_in _ _ (sym c.is_inside.ensures ∙ c.if-not-is_inside.false)) c.requires.1)
 
 pub overflow_add-end : goal.overflow_add-end
-overflow_add-end c = omega (arith, room c.loop-left.invariant (omega arith))
+overflow_add-end c = omega (arith, room c.loop.invariant (omega arith))
 
 pub offset_bounds-out-start : goal.offset_bounds-out-start
-offset_bounds-out-start c = omega (arith, room c.loop-left.invariant (omega arith))
+offset_bounds-out-start c = omega (arith, room c.loop.invariant (omega arith))
 
-pub loop-left-preserved : goal.loop-left-preserved
-loop-left-preserved c =
-    step c.loop-left.invariant (omega arith) c.in_ok-p.ensures c.decode_partition.auto.out
+pub loop-preserved : goal.loop-preserved
+loop-preserved c =
+    step c.loop.invariant (omega arith) (omega arith) c.in_ok-p.ensures c.decode_partition.auto.out
 
 pub shape_of-out-in_err-p : goal.shape_of-out-in_err-p
-shape_of-out-in_err-p c = part-keeps-length c.loop-left.invariant (omega arith) c.decode_partition.new.out c.decode_partition.auto.out
+shape_of-out-in_err-p c = part-keeps-length c.loop.invariant (omega arith) c.decode_partition.new.out c.decode_partition.auto.out
 
 pub returns-in_err-p : goal.returns-in_err-p
-returns-in_err-p c = stops c.loop-left.invariant (omega arith) _ _ c.from_residual.ensures.1 c.in_err-p.ensures _
+returns-in_err-p c = stops c.loop.invariant (omega arith) _ _ c.from_residual.ensures.1 c.in_err-p.ensures _
 
 pub shape_of-out : goal.shape_of-out
-shape_of-out c = c.loop-left.invariant.long
+shape_of-out c = c.loop.invariant.long
 
 pub returns : goal.returns
-returns c = end c.loop-left.invariant (omega arith)
+returns c = end c.loop.invariant (omega arith)

@@ -4,7 +4,7 @@ use Rattle.subframe.proofs.RiceWords.{any_got, any_refused}
 use Rattle.subframe.proofs.residual.read_any_rice.Goals as goal
 
 pub returns-in_err-x : goal.returns-in_err-x
-returns-in_err-x c = any_refused _ _ _ c.place_at.ensures _ _ c.from_residual.ensures.1 c.in_err-x.ensures
+returns-in_err-x c = any_refused _ _ _ c.place.ensures _ _ c.from_residual.ensures.1 c.in_err-x.ensures
 
 pub returns : goal.returns
-returns c = any_got _ _ _ c.place_at.ensures c.in_ok-x.ensures (search rules)
+returns c = rw c.from.ensures (any_got _ _ _ c.place.ensures c.in_ok-x.ensures (search rules))
