@@ -1,6 +1,6 @@
 -- Looks at the window while metadata blocks are passed: each moves on along the card, and what the card has from there on
 -- stays the same. Assumes nothing.
-use Prim.Native.Nat.{ℕ, ◌+◌, ◌-◌, ◌≤◌, ◌<◌, min}
+use Prim.Native.Nat.{ℕ, ◌+◌, ◌≤◌, ◌<◌, min}
 use native.Mathlib.Omega.{arith}
 use native.Mathlib.Nat.{zero-add}
 use mathlib.Core.Path.{◌≡◌, refl, ap, ap₂, sym, ◌∙◌, subst}
@@ -9,52 +9,19 @@ use mathlib.Core.List.{List, [], ◌++◌, append_assoc, append-nil}
 use lib.ListN.{length, take, drop, length-append, take-append-drop}
 use lib.Seq.{length-take-le}
 use Rattle.reading.specs.Places.{got_at, refused_at, short_at}
+use Rattle.std.specs.declared.ops.ControlFlow.{ControlFlow}
+use Rattle.std.specs.declared.ops.ControlFlow.TheVariants.{Continue, Break}
 use Rattle.error.specs.declared.Refusal.{Refusal}
 use Rattle.error.specs.Numbers.{number_of}
 use Rattle.frame_list.specs.declared.Card.{Card}
 use Rattle.frame_list.specs.declared.How.{How}
 use Rattle.frame_list.specs.declared.Last.{Last}
-use Rattle.frame_list.specs.declared.Turn.{Turn}
 use Rattle.frame_list.specs.declared.opening.Skip.{Skip}
-use Rattle.frame_list.specs.declared.opening.SkipTurn.{SkipTurn}
-use Rattle.frame_list.specs.CardProgress.{Sound, Continues, Wanting, Closes, Refills}
-use Rattle.frame_list.specs.Opening.{byte_at, blocks_from, HopsTo, Refilled, Moves, Arrives, Lacking, Stuck, Passes, Tells, GoesOn, ToFrames, Ends, SkipTurns, SkipsAll, SkipsTo}
-use Rattle.frame_list.proofs.CardTurns.{refills_on, refills_over, window-kept, fresh, window-joined}
+use Rattle.frame_list.specs.declared.opening.Passed.{Passed}
+use Rattle.frame_list.specs.CardProgress.{Sound}
+use Rattle.frame_list.specs.Opening.{byte_at, blocks_from, HopsTo, Lacking, Passes, Tells, GoesOn, ToFrames, Ends, SkipTurns, SkipsAll, SkipsTo}
+use Rattle.frame_list.proofs.CardTurns.{window-kept, fresh, window-joined}
 use Rattle.frame_list.proofs.MetadataBlocks.{from_past, from_end, window-short}
-
--- ---- a move of the window
-
-module _ (was left : List ℕ) (card : Card) (pass : ℕ) (last : Bool) where
-  module _ (place : ℕ) (p : place ≡ min pass card.held) (turn : Turn) (h : Refills was card place Refusal.CutShort turn left) where
-    pub refilled : {next : Card} → turn ≡ Turn.On next → Refilled was card pass last (record { card = next; pass = pass - place; last = last }) left
-    refilled {next} e = record {
-      goes = subst (λ n. Continues was card n next left) p (refills_on was left card place Refusal.CutShort turn h e);
-      same_place = ap (λ n. pass - n) p;
-      same-last = refl;
-    }
-
-    pub closed : {end : Last} → turn ≡ Turn.Over end → Closes card (min pass card.held) Refusal.CutShort end
-    closed {end} e = subst (λ n. Closes card n Refusal.CutShort end) p (refills_over was left card place Refusal.CutShort turn h e)
-
-  lacking : (last ≡ true → card.held < pass) → (how : How) → Wanting Refusal.CutShort how → Lacking card pass last how
-  lacking past (How.Ended x) e = past
-  lacking past (How.Refused x) e = e
-  lacking past (How.Unread error) e = tt
-  lacking past How.TooLong e = tt
-  lacking past How.TooFar e = tt
-
-  -- the place is not in the window
-  pub moves_pass : (last ≡ true → card.held < pass) → (r : SkipTurn) → Moves was card pass last r left → Passes was card pass last r left
-  moves_pass past (SkipTurn.On next) m = m
-  moves_pass past (SkipTurn.Frames next) m = absurd m
-  moves_pass past (SkipTurn.Over end) m = record { same_card = m.same_card; place-fits = omega (arith, m.same_place); how = lacking past end.how m.how }
-
-  -- it is, and it is that of the first frame
-  pub arrives_pass : last ≡ true → pass ≤ card.held → (r : SkipTurn) → Arrives was card pass r left → Passes was card pass last r left
-  arrives_pass is fits (SkipTurn.On next) a = absurd a
-  arrives_pass is fits (SkipTurn.Frames next) a = (is, a)
-  arrives_pass is fits (SkipTurn.Over end) a =
-      subst (Stuck card pass last) (sym a) (record { same_card = refl; place-fits = fits; how = tt })
 
 -- ---- a look at the window
 
@@ -84,10 +51,10 @@ module _ (was left : List ℕ) (skip : Skip) (sound : Sound skip.card (length wa
     tells-end How.TooLong past = λ u some. tt
     tells-end How.TooFar past = λ u some. tt
 
-    pub passes_turns : (r : SkipTurn) → Passes was skip.card to last r left → SkipTurns was skip r left
-    passes_turns (SkipTurn.On next) p = record { to = to; last = last; hops = hops; moves = p }
-    passes_turns (SkipTurn.Frames next) p = record { to = to; hops = subst (HopsTo w skip.pass skip.last to) p.0 hops; moves = p.1 }
-    passes_turns (SkipTurn.Over end) p = record { same_card = p.same_card; place-fits = p.place-fits; tells = tells-end end.how p.how }
+    pub passes_turns : (r : ControlFlow Last Passed) → Passes was skip.card to last r left → SkipTurns was skip r left
+    passes_turns (Continue (Passed.On next)) p = record { to = to; last = last; hops = hops; moves = p }
+    passes_turns (Continue (Passed.Frames next)) p = record { to = to; hops = subst (HopsTo w skip.pass skip.last to) p.0 hops; moves = p.1 }
+    passes_turns (Break end) p = record { same_card = p.same_card; place-fits = p.place-fits; tells = tells-end end.how p.how }
 
   pub refused-turns : (e : Refusal)
       → ((u more : List ℕ) → 0 < length u + skip.pass → blocks_from skip.last (u ++ (w ++ more)) (length u + skip.pass) ≡ refused_at (number_of e))
@@ -97,17 +64,6 @@ module _ (was left : List ℕ) (skip : Skip) (sound : Sound skip.card (length wa
     place-fits = omega arith;
     tells = λ u some more. ap (λ (s : List ℕ). blocks_from skip.last s (length u + skip.pass)) (append_assoc u w more) ∙ h u more some;
   }
-
--- by the turn that it gives
-module _ (was left : List ℕ) (skip : Skip) (turn : SkipTurn) (h : SkipTurns was skip turn left) where
-  pub skips_on : {next : Skip} → turn ≡ SkipTurn.On next → GoesOn was skip next left
-  skips_on e = subst (λ (t : SkipTurn). SkipTurns was skip t left) e h
-
-  pub skips_to_frames : {next : Card} → turn ≡ SkipTurn.Frames next → ToFrames was skip next left
-  skips_to_frames e = subst (λ (t : SkipTurn). SkipTurns was skip t left) e h
-
-  pub skips_over : {end : Last} → turn ≡ SkipTurn.Over end → Ends was skip end
-  skips_over e = subst (λ (t : SkipTurn). SkipTurns was skip t left) e h
 
 -- ---- all looks
 

@@ -1,10 +1,12 @@
 -- Turns: each one reads further, and what is listed of the card stays the same. Assumes nothing.
-use Prim.Native.Nat.{ℕ, ◌+◌, ◌-◌, ◌*◌, ◌^◌, ◌≤◌, ◌<◌}
+use Prim.Native.Nat.{ℕ, ◌+◌, ◌-◌, ◌≤◌}
 use native.Mathlib.Omega.{arith}
-use mathlib.Core.Path.{◌≡◌, refl, ap, ap₂, sym, ◌∙◌, subst}
+use mathlib.Core.Path.{◌≡◌, refl, ap, ap₂, sym, ◌∙◌}
 use mathlib.Core.List.{List, [], ◌++◌, append_assoc, append-nil}
 use lib.ListN.{length, take, drop, length-append, length-drop, take-append-drop}
 use lib.Seq.{take-take, length-take-le, take-add, drop_at}
+use Rattle.std.specs.declared.ops.ControlFlow.{ControlFlow}
+use Rattle.std.specs.declared.ops.ControlFlow.TheVariants.{Continue, Break}
 use Rattle.error.specs.declared.Refusal.{Refusal}
 use Rattle.error.specs.declared.Refusal.TheVariants.{NothingLeft, CutShort, NotSync, Reserved, BadNumber, HeaderSum, NoRoom, NotDone, BadShape, FrameSum, BadArgument, SampleRange, OutputRoom}
 use Rattle.error.specs.declared.Need.{Need}
@@ -12,66 +14,16 @@ use Rattle.error.specs.Numbers.{number_of}
 use Rattle.error.specs.Needs.{needs_of}
 use Rattle.rfc9639.specs.Stream.{bits_in_range}
 use Rattle.rfc9639.specs.FrameByFrame.{Verdict, undecided, refuse, verdict_of}
-use Rattle.frame_list.specs.declared.window.Rest.{Rest}
-use Rattle.frame_list.specs.declared.window.Filled.{Filled}
 use Rattle.frame_list.specs.declared.Totals.{Totals}
 use Rattle.frame_list.specs.declared.Card.{Card}
 use Rattle.frame_list.specs.declared.Listed.{Listed}
 use Rattle.frame_list.specs.declared.How.{How}
 use Rattle.frame_list.specs.declared.Last.{Last}
-use Rattle.frame_list.specs.declared.Turn.{Turn}
-use Rattle.frame_list.specs.Window.{Enough, Fills}
 use Rattle.frame_list.specs.Listing.{Listing, listed, Lists}
-use Rattle.frame_list.specs.CardProgress.{Sound, pending, Stays, Continues, Wanting, Closes, Refills, Carries, Unfinished, Accounts, Stops, Turns, Runs}
+use Rattle.frame_list.specs.CardProgress.{Sound, Continues, Wanting, Closes, Refills, Carries, Unfinished, Accounts, Stops, Turns, Runs}
 use Rattle.frame_list.proofs.FirstFrame.{listed-stream, listed-goes_on, listed-stands}
 
 -- ---- the window's bytes
-
-module _ (was : List ℕ) (card : Card) (place : ℕ) (e : Refusal) (sound : Sound card (length was)) (inside : place ≤ card.held) (more : card.rest ≡ Rest.More) where
-  one-pending : pending card.rest ≡ 1
-  one-pending = ap pending more
-
-  -- if the window is full, the place is its front
-  pub full_refills : card.held - place ≡ length was → (r : Turn) → Stays card place r → Refills was card place e r was
-  full_refills full (Turn.Over last) s =
-      record { same_card = ap (λ (l : Last). l.card) s; same_place = ap (λ (l : Last). l.place) s; how = subst (λ (l : Last). Wanting e l.how) (sym s) tt }
-  full_refills full (Turn.On next) s =
-      let z : place ≡ 0 = omega (arith, sound.held_fits) in
-      record {
-        kept = rw z refl;
-        least = omega (arith, s.1);
-        next_base = omega (arith, s.0);
-        same-totals = s.2;
-        sound = record { held_fits = omega (arith, s.1, sound.held_fits); numbered = omega (arith, s.0, sound.numbered); bits = ap (λ (t : Totals). bits_in_range t.stream) s.2 ∙ sound.bits };
-        further = omega (arith, s.0, s.1, s.3, one-pending, sound.held_fits, sound.numbered);
-      }
-
-  module _ (moved left : List ℕ) (filled : Filled) (wanted : ℕ) (long : length moved ≡ length was)
-      (shifted : take (card.held - place) moved ≡ take (card.held - place) (drop place was)) (fills : Fills moved (card.held - place) wanted filled left)
-      (some : card.held - place < wanted) (wide : card.base + place + length was < 2 ^ 64) where
-    less : (rest : Rest) → Enough rest wanted filled.held
-        → (2 ^ 64 - (card.base + place + filled.held)) * 2 + pending rest < (2 ^ 64 - (card.base + card.held)) * 2 + 1
-    less Rest.More enough = omega (arith, fills.most, fills.least, long)
-    less Rest.Ended enough = omega (arith, fills.most, fills.least, long)
-    less (Rest.Failed error) enough = omega (arith, fills.most, fills.least, long)
-
-    pub go_refills : Continues was card place (record { base = card.base + place; held = filled.held; rest = filled.rest; totals = card.totals }) left
-    go_refills = record {
-      kept = fills.kept ∙ shifted;
-      least = fills.least;
-      next_base = refl;
-      same-totals = refl;
-      sound = record { held_fits = omega (arith, fills.most, long); numbered = wide; bits = sound.bits };
-      further = omega (arith, less filled.rest fills.enough, one-pending);
-    }
-
--- by the turn that it gives
-module _ (was left : List ℕ) (card : Card) (place : ℕ) (e : Refusal) (turn : Turn) (h : Refills was card place e turn left) where
-  pub refills_on : {next : Card} → turn ≡ Turn.On next → Continues was card place next left
-  refills_on is = subst (λ (t : Turn). Refills was card place e t left) is h
-
-  pub refills_over : {end : Last} → turn ≡ Turn.Over end → Closes card place e end
-  refills_over is = subst (λ (t : Turn). Refills was card place e t left) is h
 
 drop_of_take : (k m : ℕ) (l : List ℕ) → k ≤ m → k ≤ length l → drop k (take m l) ≡ take (m - k) (drop k l)
 drop_of_take k m l h g =
@@ -193,9 +145,9 @@ module _ (room : ℕ) (was : List ℕ) (card : Card) (r : Listed) (sound : Sound
         accounts = accounts_by_end last.how c.how;
       }
 
-    pub turns : (left : List ℕ) → length left ≡ length was → (t : Turn) → Refills was read r.place r.refusal t left → Turns room was card t left
-    turns left long (Turn.On next) c = carries next left long c
-    turns left long (Turn.Over last) c = stops last c
+    pub turns : (left : List ℕ) → length left ≡ length was → (t : ControlFlow Last Card) → Refills was read r.place r.refusal t left → Turns room was card t left
+    turns left long (Continue next) c = carries next left long c
+    turns left long (Break last) c = stops last c
 
   pub refused-stops : (n : Need) → needs_of r.refusal ≡ n → verdict_for n ≡ refuse
       → Stops room was card (record { card = read; place = r.place; how = How.Refused r.refusal })
@@ -207,13 +159,6 @@ module _ (room : ℕ) (was : List ℕ) (card : Card) (r : Listed) (sound : Sound
   }
 
 -- ---- from the start
-
-module _ (room room' : ℕ) (e : room ≡ room') (was : List ℕ) (card : Card) where
-  pub turns_on : (next : Card) (left : List ℕ) (r : Turn) → r ≡ Turn.On next → Turns room was card r left → Carries room' was card next left
-  turns_on next left r is h = subst (λ n. Carries n was card next left) e (subst (λ (t : Turn). Turns room was card t left) is h)
-
-  pub turns_over : (last : Last) (left : List ℕ) (r : Turn) → r ≡ Turn.Over last → Turns room was card r left → Stops room' was card last
-  turns_over last left r is h = subst (λ n. Stops n was card last) e (subst (λ (t : Turn). Turns room was card t left) is h)
 
 -- the invariant: listing the bytes read so far, after a start whose window held the first of them, is listing the window,
 -- with the totals before it

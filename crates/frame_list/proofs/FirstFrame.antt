@@ -7,13 +7,12 @@ use mathlib.Core.Path.{◌≡◌, refl, ap, ap₂, sym, ◌∙◌, subst}
 use mathlib.Core.List.{List, [], ◌∷◌, ◌++◌}
 use lib.Dec.{eqb}
 use lib.ListN.{drop}
-use Rattle.std.specs.Prelude.{if◌then◌else◌}
+use Rattle.std.specs.Prelude.{Option, Some, None, if◌then◌else◌}
 use Rattle.reading.specs.Places.{At, got_at, refused_at, short_at, run_at, place_of}
 use Rattle.reading.proofs.ByteRuns.{and_fst}
 use Rattle.reading.proofs.Postconditions.{Meets, holds_at}
 use Rattle.rfc9639.specs.declared.FrameHeader.{FrameHeader}
 use Rattle.rfc9639.specs.declared.Settings.{Settings}
-use Rattle.rfc9639.specs.declared.StreamBlock.{StreamBlock}
 use Rattle.rfc9639.specs.declared.StreamRecord.{StreamRecord}
 use Rattle.rfc9639.specs.Header.{header}
 use Rattle.rfc9639.specs.Stream.{in_range, bits_in_range, possible}
@@ -61,35 +60,35 @@ module _ (room place : ℕ) (t : Totals) (w : List ℕ) (k : ℕ) {number : ℕ}
 
   -- the header is not decided, and the stream's block was not known before
   Waits : Type 0
-  Waits = (t.block ≡ StreamBlock.Unknown) × (run_at header w (place_of 0) ≡ short_at)
+  Waits = (t.block ≡ None) × (run_at header w (place_of 0) ≡ short_at)
 
   -- else more bytes do not change the stream's block
   longer : (Waits → ⊥) → (more : List ℕ) → listed room place t (w ++ more) ≡ listed_as set room place (settled t w) (w ++ more)
   unfolding Waits
   longer known more =
-      ap (λ (b : StreamBlock). listed_as (record { block = b; stream = t.stream }) room place (with_block t b) (w ++ more)) (go t.block refl)
+      ap (λ (b : Option ℕ). listed_as (record { block = b; stream = t.stream }) room place (with_block t b) (w ++ more)) (go t.block refl)
     where
-      go : (b : StreamBlock) → t.block ≡ b → block_for b (w ++ more) ≡ block_for b w
-      go (StreamBlock.Known n) e = refl
-      go StreamBlock.Unknown e = ap (λ (x : Settings). x.block) (settings_stay w (λ s. known (e, s)) more)
+      go : (b : Option ℕ) → t.block ≡ b → block_for b (w ++ more) ≡ block_for b w
+      go (Some n) e = refl
+      go None e = ap (λ (x : Settings). x.block) (settings_stay w (λ s. known (e, s)) more)
 
   -- once the stream's block is known, it stays
-  settles : {n : ℕ} → block_for t.block w ≡ StreamBlock.Known n → (at : ℕ) (s : List ℕ) → listed_as set room at u s ≡ listed room at u s
+  settles : {n : ℕ} → block_for t.block w ≡ Some n → (at : ℕ) (s : List ℕ) → listed_as set room at u s ≡ listed room at u s
   settles e at s =
       let b = kept.0 ∙ e in
-      let same : block_for t.block w ≡ block_for u.block s = e ∙ sym (ap (λ (x : StreamBlock). block_for x s) b) in
+      let same : block_for t.block w ≡ block_for u.block s = e ∙ sym (ap (λ (x : Option ℕ). block_for x s) b) in
       let own : u.block ≡ block_for u.block s = kept.0 ∙ same in
-      ap₂ (λ (x : StreamBlock) (y : StreamRecord). listed_as (record { block = x; stream = y }) room at u s) same (sym kept.1)
-      ∙ ap (λ (y : StreamBlock). listed_as (settings_for u s) room at (with_block u y) s) own
+      ap₂ (λ (x : Option ℕ) (y : Option StreamRecord). listed_as (record { block = x; stream = y }) room at u s) same (sym kept.1)
+      ∙ ap (λ (y : Option ℕ). listed_as (settings_for u s) room at (with_block u y) s) own
 
   -- a first answer that is no frame is all that is listed
   refused-first : (verdict (one w) ≡ accept → ⊥)
       → ◌≡◌ {A = Listing} (record { place = place; totals = settled t w; number = (one w).report.number }) (record { place = place + k; totals = u; number = number })
   refused-first none = sym (other-shown (lawful (record { given = set; room = room })) place (settled t w) w none) ∙ is
 
-  module _ (unknown : t.block ≡ StreamBlock.Unknown) where
+  module _ (unknown : t.block ≡ None) where
     block_is : set.block ≡ (stream_settings w).block
-    block_is = ap (λ (b : StreamBlock). block_for b w) unknown
+    block_is = ap (λ (b : Option ℕ). block_for b w) unknown
 
     ok : possible set ≡ true
     unfolding possible
@@ -146,20 +145,20 @@ module _ (room place : ℕ) (t : Totals) (w : List ℕ) (k : ℕ) {number : ℕ}
   unfolding Waits
   listed-goes_on v more = go t.block refl (run_at header w (place_of 0)) refl
     where
-      known : {n : ℕ} → block_for t.block w ≡ StreamBlock.Known n → (Waits → ⊥) → listed room place t (w ++ more) ≡ listed room (place + k) u (drop k w ++ more)
+      known : {n : ℕ} → block_for t.block w ≡ Some n → (Waits → ⊥) → listed room place t (w ++ more) ≡ listed room (place + k) u (drop k w ++ more)
       known e no-wait =
           longer no-wait more ∙ goes_on-from (lawful (record { given = set; room = room })) place (settled t w) w k is v more
           ∙ settles e (place + k) (drop k w ++ more)
 
-      go : (b : StreamBlock) → t.block ≡ b → (x : At FrameHeader) → run_at header w (place_of 0) ≡ x
+      go : (b : Option ℕ) → t.block ≡ b → (x : At FrameHeader) → run_at header w (place_of 0) ≡ x
           → listed room place t (w ++ more) ≡ listed room (place + k) u (drop k w ++ more)
-      go (StreamBlock.Known n) e x f =
-          known (ap (λ (b : StreamBlock). block_for b w) e) (λ y. let d = sym e ∙ y.0 in let z : ◌≡◌ {A = ℕ} 0 1 = cc in omega arith)
-      go StreamBlock.Unknown e (got_at h p) f =
-          known (ap (λ (b : StreamBlock). block_for b w) e ∙ ap (λ (x : Settings). x.block) (header-settings w f))
+      go (Some n) e x f =
+          known (ap (λ (b : Option ℕ). block_for b w) e) (λ y. let d = sym e ∙ y.0 in let z : ◌≡◌ {A = ℕ} 0 1 = cc in omega arith)
+      go None e (got_at h p) f =
+          known (ap (λ (b : Option ℕ). block_for b w) e ∙ ap (λ (x : Settings). x.block) (header-settings w f))
           (λ y. let d = sym f ∙ y.1 in let z : ◌≡◌ {A = ℕ} 0 1 = cc in omega arith)
-      go StreamBlock.Unknown e (refused_at m) f = absurd (refused_decides e f v)
-      go StreamBlock.Unknown e short_at f = short-goes_on e f more
+      go None e (refused_at m) f = absurd (refused_decides e f v)
+      go None e short_at f = short-goes_on e f more
 
   -- if they cannot, the list is the same whatever follows
   pub listed-stands : (verdict_of number ≡ undecided → ⊥) → (more : List ℕ) → listed room place t (w ++ more) ≡ record { place = place + k; totals = u; number = number }

@@ -1,5 +1,4 @@
 -- The laws that the functions' proofs cite.
-pub mod WindowShift
 pub mod FillInvariant
 pub mod ListedFrames
 pub mod FirstFrame

@@ -7,6 +7,7 @@ use borrow.Author.Tests.{eq-eqb, ne_eqb}
 use lib.IntN.{ℤ}
 use lib.ListN.{length, drop, length-drop}
 use lib.Seq.{drop-drop, drop-append-le}
+use Rattle.std.specs.Prelude.{Ok, Err}
 use Rattle.error.specs.declared.Refusal.{Refusal}
 use Rattle.error.specs.Numbers.{number_of}
 use Rattle.error.proofs.Outcome.{some_number}
@@ -15,7 +16,6 @@ use Rattle.rfc9639.specs.Read.{Report, refusal, Result, result, read}
 use Rattle.rfc9639.specs.FrameByFrame.{Verdict, accept, undecided, refuse, verdict_of, verdict, goes_on, answers}
 use Rattle.demands.proofs.FrameByFrame.{accept-zero, verdict_is, Lawful, answers_unrolled, lawful}
 use Rattle.frame.specs.declared.Accepted.{Accepted}
-use Rattle.frame.specs.declared.ReadAnswer.{ReadAnswer}
 use Rattle.frame.specs.Reads.{report_of}
 use Rattle.walk.specs.declared.Step.{Step}
 use Rattle.walk.specs.Steps.{Steps}
@@ -174,7 +174,7 @@ module _ (s : List ℕ) (set : Settings) (room base : ℕ) where
     unfolding read
     next = h.next ∙ ap (λ n. place + (result (record { given = set; room = n }) (drop place s)).report.consumed) long
 
-    pub step-frame : {f : Accepted} → r.answer ≡ ReadAnswer.Frame f
+    pub step-frame : {f : Accepted} → r.answer ≡ Ok f
         → listed_as set room (base + place) t (drop place s) ≡ listed_as set room (base + r.place) (with_frame t f.channels f.size f.rate) (drop r.place s)
     unfolding verdict_of
     step-frame {f} e =
@@ -185,7 +185,7 @@ module _ (s : List ℕ) (set : Settings) (room base : ℕ) where
         ∙ ap₂ (λ m (l : List ℕ). listed_as set room m (with_frame t q.channels q.size q.rate) l) sum (drop-drop q.consumed place s ∙ ap (λ n. drop n s) (sym next))
         ∙ ap (λ (p : Report). listed_as set room (base + r.place) (with_frame t p.channels p.size p.rate) (drop r.place s)) (sym is)
 
-    pub step-refused : {x : Refusal} → r.answer ≡ ReadAnswer.Refused x
+    pub step-refused : {x : Refusal} → r.answer ≡ Err x
         → listed_as set room (base + place) t (drop place s) ≡ record { place = base + place; totals = t; number = number_of x }
     unfolding refusal
     step-refused {x} e =

@@ -21,8 +21,6 @@ use Rattle.rfc9639.proofs.StreamHeaderValues.{StreamRefusal, head_holds}
 use Rattle.demands.proofs.StreamHeaders.{blocks-alike}
 use Rattle.error.specs.declared.Refusal.{Refusal}
 use Rattle.error.specs.Numbers.{number_of, refused_by}
-use Rattle.stream.specs.declared.BlockHead.{BlockHead}
-use Rattle.stream.specs.Answers.{head_at}
 use Rattle.stream.proofs.SkippedBlocks.{block-there, block-cut}
 use Rattle.frame_list.specs.Opening.{byte_at, blocks_after, blocks_from, HopsTo}
 
@@ -166,50 +164,36 @@ pub refused-number : {A : Type 0} (e : Refusal) → (number_of e ≡ 2 → ⊥) 
 refused-number e n = rw (ne_eqb (number_of e) 2 n)
 
 -- the heads in the window lead from a place to another, where there may be one more
-pub record Hopping (w : List ℕ) (from : ℕ) (was : Bool) (at : ℕ) : Type 0 where
-  pub same : (u more : List ℕ) → 0 < length u + from → blocks_from was (u ++ (w ++ more)) (length u + from) ≡ blocks_from false (u ++ (w ++ more)) (length u + at)
+pub record Hopping (w : List ℕ) (from : ℕ) (was : Bool) (at : ℕ) (last : Bool) : Type 0 where
+  pub same : (u more : List ℕ) → 0 < length u + from → blocks_from was (u ++ (w ++ more)) (length u + from) ≡ blocks_from last (u ++ (w ++ more)) (length u + at)
   pub forth : from ≤ at
 
-pub hopping : (w : List ℕ) (from : ℕ) {was : Bool} → was ≡ false → Hopping w from was from
-hopping w from e = record { same = λ u more some. ap (λ b. blocks_from b (u ++ (w ++ more)) (length u + from)) e; forth = omega arith }
+pub hopping : (w : List ℕ) (from : ℕ) (was : Bool) → Hopping w from was from was
+hopping w from was = record { same = λ u more some. refl; forth = omega arith }
 
-module _ {w : List ℕ} {from : ℕ} {was : Bool} {at : ℕ} (h : Hopping w from was at) {r : BlockHead} (is : head_at r ≡ run_at block_head w (byte_at at)) where
-  module _ {last : Bool} {size : ℕ} {end : Place} (e : r ≡ BlockHead.Head last size end) where
-    got-head : run_at block_head w (byte_at at) ≡ got_at (last, size) end
-    got-head = sym is ∙ ap head_at e
+module _ {w : List ℕ} {from : ℕ} {was : Bool} {at : ℕ} {last : Bool} (h : Hopping w from was at last) where
+  -- as it is after the last block, or before it
+  hops-as : {b : Bool} → last ≡ b → Hopping w from was at b
+  hops-as e = subst (Hopping w from was at) e h
 
-    pub next-head : Head w at size end
-    next-head = head_is w at got-head
+  -- after the last block there is no head
+  pub hops-done : last ≡ true → HopsTo w from was at true
+  hops-done e = record { same = (hops-as e).same; no_head = λ z. absurd (true≢false z); forth = h.forth }
 
-    hop_same : (u more : List ℕ) → 0 < length u + from → blocks_from was (u ++ (w ++ more)) (length u + from) ≡ blocks_from last (u ++ (w ++ more)) (length u + (end.byte + size))
-    hop_same u more some =
-        h.same u more some ∙ window-next u w more at (omega (arith, h.forth)) got-head
-        ∙ ap (λ (p : Place). blocks_from last (u ++ (w ++ more)) (length u + (p.byte + size))) (sym next-head.ends)
+  module _ (going : last ≡ false) where
+    pub hop_on : {more : Bool} {size : ℕ} {end : Place} → run_at block_head w (byte_at at) ≡ got_at (more, size) end → Hopping w from was (end.byte + size) more
+    hop_on {more} {size} {end} e =
+        let next = head_is w at e in
+        record {
+          same = λ u rest some.
+              (hops-as going).same u rest some ∙ window-next u w rest at (omega (arith, h.forth)) e
+              ∙ ap (λ (p : Place). blocks_from more (u ++ (w ++ rest)) (length u + (p.byte + size))) (sym next.ends);
+          forth = omega (arith, h.forth, ap (λ (p : Place). p.byte) next.ends);
+        }
 
-    forwards : from ≤ end.byte + size
-    forwards = omega (arith, h.forth, ap (λ (p : Place). p.byte) next-head.ends)
+    module _ (e : Refusal) (f : refused_by e ≡ run_at block_head w (byte_at at)) where
+      pub hop_short : number_of e ≡ 2 → HopsTo w from was at false
+      hop_short n = record { same = (hops-as going).same; no_head = λ z. sym f ∙ refused-short e n; forth = h.forth }
 
-    pub hop_on : last ≡ false → Hopping w from was (end.byte + size)
-    hop_on f = record { same = λ u more some. hop_same u more some ∙ ap (λ b. blocks_from b (u ++ (w ++ more)) (length u + (end.byte + size))) f; forth = forwards }
-
-    pub hop_last : last ≡ true → HopsTo w from was (end.byte + size) true
-    hop_last f = record {
-      same = λ u more some. hop_same u more some ∙ ap (λ b. blocks_from b (u ++ (w ++ more)) (length u + (end.byte + size))) f;
-      no_head = λ z. absurd (true≢false z);
-      forth = forwards;
-    }
-
-  module _ {e : Refusal} (f : r ≡ BlockHead.Refused e) where
-    pub hop_short : number_of e ≡ 2 → HopsTo w from was at false
-    hop_short n = record { same = h.same; no_head = λ z. sym is ∙ ap head_at f ∙ refused-short e n; forth = h.forth }
-
-    pub hop_refused : (number_of e ≡ 2 → ⊥) → (u more : List ℕ) → 0 < length u + from → blocks_from was (u ++ (w ++ more)) (length u + from) ≡ refused_at (number_of e)
-    hop_refused n u more some = h.same u more some ∙ window-refused u w more at (omega (arith, h.forth)) (sym is ∙ ap head_at f ∙ refused-number e n)
-
--- after the last block there is none
-pub hops-done : (w : List ℕ) (from : ℕ) {was : Bool} → was ≡ true → HopsTo w from was from true
-hops-done w from e = record {
-  same = λ u more some. ap (λ b. blocks_from b (u ++ (w ++ more)) (length u + from)) e;
-  no_head = λ z. absurd (true≢false z);
-  forth = omega arith;
-}
+      pub hop_refused : (number_of e ≡ 2 → ⊥) → (u more : List ℕ) → 0 < length u + from → blocks_from was (u ++ (w ++ more)) (length u + from) ≡ refused_at (number_of e)
+      hop_refused n u more some = (hops-as going).same u more some ∙ window-refused u w more at (omega (arith, h.forth)) (sym f ∙ refused-number e n)

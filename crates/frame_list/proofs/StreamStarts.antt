@@ -7,16 +7,18 @@ use mathlib.Core.Bool.{Bool, true}
 use mathlib.Core.List.{List, ◌++◌, append_assoc}
 use borrow.Author.Tests.{le-leb}
 use lib.ListN.{length, take}
+use Rattle.std.specs.Prelude.{Some}
 use Rattle.reading.specs.declared.Place.{Place}
 use Rattle.reading.specs.Readers.{Ask, done, ◌>>=◌}
 use Rattle.reading.specs.Places.{place_of, got_at, refused_at, short_at, run_at}
 use Rattle.reading.proofs.ByteRuns.{run_at-done, stays_in, bind_got_lem, bind_refused, bind_short}
 use Rattle.reading.proofs.BytePrefixes.{run_at_append}
 use Rattle.reading.proofs.Postconditions.{Meets, holds_at}
+use Rattle.std.specs.declared.ops.ControlFlow.{ControlFlow}
+use Rattle.std.specs.declared.ops.ControlFlow.TheVariants.{Continue, Break}
 use Rattle.error.specs.declared.Refusal.{Refusal}
 use Rattle.error.specs.Numbers.{number_of, refused_by}
 use Rattle.rfc9639.specs.declared.StreamInfo.{StreamInfo}
-use Rattle.rfc9639.specs.declared.StreamRecord.{StreamRecord}
 use Rattle.rfc9639.specs.Stream.{bits_in_range}
 use Rattle.rfc9639.specs.StreamHeader.{stream_start, stream_header, stream_header_of}
 use Rattle.rfc9639.proofs.StreamHeaderBits.{start-takes}
@@ -25,9 +27,10 @@ use Rattle.frame_list.specs.declared.Card.{Card}
 use Rattle.frame_list.specs.declared.How.{How}
 use Rattle.frame_list.specs.declared.Last.{Last}
 use Rattle.frame_list.specs.declared.opening.Skip.{Skip}
-use Rattle.frame_list.specs.declared.opening.StartTurn.{StartTurn}
-use Rattle.frame_list.specs.CardProgress.{Sound, Continues, Wanting}
-use Rattle.frame_list.specs.Opening.{told_card, byte_at, blocks_after, blocks_from, Tells, SkipsAll, SkipsTo, Waits, Refusing, Unstarted, Unmarked, NotFound, Found, StartTurns, Bare, Headed, HeaderOver, Stream}
+use Rattle.frame_list.specs.declared.opening.Start.{Start}
+use Rattle.frame_list.specs.declared.opening.Look.{Look}
+use Rattle.frame_list.specs.CardProgress.{Sound, Continues}
+use Rattle.frame_list.specs.Opening.{told, byte_at, blocks_after, blocks_from, Tells, SkipsAll, SkipsTo, Refusing, Unstarted, Unmarked, NotFound, Found, StartTurns, Bare, Headed, HeaderOver, Stream}
 use Rattle.frame_list.proofs.MetadataBlocks.{refused-short, refused-number}
 
 -- ---- a refusal of the start
@@ -68,7 +71,7 @@ module _ (s : List ℕ) where
     pub start-some : 0 < pass
     start-some = let x = start-takes.taken s (place_of 0) (last, info) (byte_at pass) start in omega (arith, x.1, x.2)
 
-    start-bits : bits_in_range (StreamRecord.Known info.bits info.rate) ≡ true
+    start-bits : bits_in_range (Some (record { bits = info.bits; rate = info.rate })) ≡ true
     unfolding bits_in_range
     start-bits =
         let k : InfoInRange info = subst (Meets StreamRefusal (λ (x : Bool × StreamInfo). InfoInRange x.1)) start (holds_at StreamRefusal (λ (x : Bool × StreamInfo). InfoInRange x.1) s (place_of 0) start_holds) in
@@ -85,19 +88,6 @@ module _ (s more : List ℕ) where
 -- ---- a look at the first bytes
 
 module _ (was left : List ℕ) (card : Card) (e : Refusal) where
-  refusing : number_of e ≡ 2 → (how : How) → Wanting Refusal.CutShort how → Refusing e how
-  refusing n (How.Ended x) h = n
-  refusing n (How.Refused x) h = absurd h
-  refusing n (How.Unread error) h = tt
-  refusing n How.TooLong h = tt
-  refusing n How.TooFar h = tt
-
-  pub waits_unstarted : number_of e ≡ 2 → (r : StartTurn) → Waits was card r left → Unstarted was card e r left
-  waits_unstarted n (StartTurn.On next) h = h
-  waits_unstarted n (StartTurn.Bare next) h = (h.0, h.1, inr (h.2, h.3))
-  waits_unstarted n (StartTurn.Header info skip) h = h
-  waits_unstarted n (StartTurn.Over end) h = record { same_card = h.same_card; same_place = h.same_place; how = refusing n end.how h.how }
-
   module _ (is : refused_by e ≡ run_at stream_start (take card.held was) (place_of 0)) where
     refused-tells : (how : How) → Refusing e how → Tells stream_header_of (take card.held was) how
     refused-tells (How.Ended x) n = header-short (take card.held was) (sym is ∙ refused-short e n)
@@ -108,26 +98,12 @@ module _ (was left : List ℕ) (card : Card) (e : Refusal) where
     refused-tells How.TooLong n = tt
     refused-tells How.TooFar n = tt
 
-    pub unstarted_turns : (r : StartTurn) → Unstarted was card e r left → StartTurns was card r left
-    unstarted_turns (StartTurn.On next) h = h
-    unstarted_turns (StartTurn.Bare next) h =
+    pub unstarted_turns : (r : ControlFlow Last Look) → Unstarted was card e r left → StartTurns was card r left
+    unstarted_turns (Continue (Look.On next)) h = h
+    unstarted_turns (Continue (Look.At (Start.Bare next))) h =
         (h.0, h.1, ⊎_elim (λ n. inl (λ more. header_refused (take card.held was ++ more) (start-refused (take card.held was) more (sym is ∙ refused-number e (λ z. omega arith))) ∙ ap refused_at n)) inr h.2)
-    unstarted_turns (StartTurn.Header info skip) h = absurd h
-    unstarted_turns (StartTurn.Over end) h = record { same_card = h.same_card; same_place = h.same_place; tells = refused-tells end.how h.how }
-
--- by the turn that it gives
-module _ (was left : List ℕ) (card : Card) (turn : StartTurn) (h : StartTurns was card turn left) where
-  pub starts_on : {next : Card} → turn ≡ StartTurn.On next → Continues was card 0 next left
-  starts_on e = subst (λ (t : StartTurn). StartTurns was card t left) e h
-
-  pub starts-bare : {next : Card} → turn ≡ StartTurn.Bare next → (next ≡ card) × (left ≡ was) × Unmarked card (take card.held was)
-  starts-bare e = subst (λ (t : StartTurn). StartTurns was card t left) e h
-
-  pub starts-header : {info : StreamInfo} {skip : Skip} → turn ≡ StartTurn.Header info skip → (left ≡ was) × Found (take card.held was) card info skip
-  starts-header e = subst (λ (t : StartTurn). StartTurns was card t left) e h
-
-  pub starts_over : {end : Last} → turn ≡ StartTurn.Over end → NotFound (take card.held was) card end
-  starts_over e = subst (λ (t : StartTurn). StartTurns was card t left) e h
+    unstarted_turns (Continue (Look.At (Start.Header info skip))) h = absurd h
+    unstarted_turns (Break end) h = record { same_card = h.same_card; same_place = h.same_place; tells = refused-tells end.how h.how }
 
 -- ---- all looks: the window's first byte stays the card's
 
@@ -169,7 +145,7 @@ module _ (was : List ℕ) (info : StreamInfo) (skip : Skip) (h : Headed info ski
   abbrev first : List ℕ
   first = take skip.card.held was
 
-  pub header-all : (next : Card) (left : List ℕ) → SkipsAll first skip next left → Stream info (told_card info next) left
+  pub header-all : (next : Card) (left : List ℕ) → SkipsAll first skip next left → Stream info (record { base = next.base; held = next.held; rest = next.rest; totals = told info }) left
   header-all next left a = record {
     head = a.head;
     long = a.long;

@@ -1,18 +1,16 @@
 -- How far a card has been read. Each turn, one pass over the window, reads further, and does not change what is listed
 -- of the card as a whole.
-use Rattle.std.specs.Prelude.{ℕ, ◌+◌, ◌-◌, ◌*◌, ◌^◌, ◌≤◌, ◌<◌, true, ◌≡◌, List, ◌++◌, length, take, drop}
+use Rattle.std.specs.Prelude.{ℕ, ◌+◌, ◌-◌, ◌*◌, ◌^◌, ◌≤◌, ◌<◌, None, true, ◌≡◌, List, ◌++◌, length, take, drop}
+use Rattle.std.specs.declared.ops.ControlFlow.{ControlFlow}
+use Rattle.std.specs.declared.ops.ControlFlow.TheVariants.{Continue, Break}
 use Rattle.error.specs.declared.Refusal.{Refusal}
 use Rattle.error.specs.Numbers.{number_of}
-use Rattle.rfc9639.specs.declared.SampleRate.{SampleRate}
-use Rattle.rfc9639.specs.declared.StreamBlock.{StreamBlock}
-use Rattle.rfc9639.specs.declared.StreamRecord.{StreamRecord}
 use Rattle.rfc9639.specs.Stream.{bits_in_range}
 use Rattle.frame_list.specs.declared.window.Rest.{Rest}
 use Rattle.frame_list.specs.declared.Totals.{Totals}
 use Rattle.frame_list.specs.declared.Card.{Card}
 use Rattle.frame_list.specs.declared.How.{How}
 use Rattle.frame_list.specs.declared.Last.{Last}
-use Rattle.frame_list.specs.declared.Turn.{Turn}
 use Rattle.frame_list.specs.Listing.{Listing, listed}
 
 -- the bytes held fit the window, 64 bits can number every place of the window on the card, and a stream can have the bits
@@ -24,7 +22,7 @@ pub record Sound (card : Card) (room : ℕ) : Type 0 where
 
 -- before the card's first frame, if it has no stream header
 abbrev pub no_frames : Totals
-no_frames = record { frames = 0; samples = 0; length = 0; rate = SampleRate.Unknown; block = StreamBlock.Unknown; stream = StreamRecord.Unknown }
+no_frames = record { frames = 0; samples = 0; length = 0; rate = None; block = None; stream = None }
 
 -- 1 if there may be more of the card to read
 abbrev pub pending : Rest → ℕ
@@ -61,14 +59,14 @@ pub record Closes (c : Card) (at : ℕ) (e : Refusal) (last : Last) : Type 0 whe
   pub how : Wanting e last.how
 
 -- the window is full: the run goes on with it if the card ends there, and is over if there is more
-abbrev pub Stays : Card → ℕ → Turn → Type 0
-Stays card place (Turn.On next) =
+abbrev pub Stays : Card → ℕ → ControlFlow Last Card → Type 0
+Stays card place (Continue next) =
     (next.base ≡ card.base) × (next.held ≡ card.held) × (next.totals ≡ card.totals) × (pending next.rest ≡ 0)
-Stays card place (Turn.Over last) = last ≡ record { card = card; place = place; how = How.TooLong }
+Stays card place (Break last) = last ≡ record { card = card; place = place; how = How.TooLong }
 
-abbrev pub Refills : List ℕ → Card → ℕ → Refusal → Turn → List ℕ → Type 0
-Refills was card place e (Turn.On next) left = Continues was card place next left
-Refills was card place e (Turn.Over last) left = Closes card place e last
+abbrev pub Refills : List ℕ → Card → ℕ → Refusal → ControlFlow Last Card → List ℕ → Type 0
+Refills was card place e (Continue next) left = Continues was card place next left
+Refills was card place e (Break last) left = Closes card place e last
 
 -- ---- what is listed
 
@@ -107,9 +105,9 @@ pub record Stops (room : ℕ) (was : List ℕ) (card : Card) (last : Last) : Typ
   pub place-fits : last.place ≤ card.held
   pub accounts : Accounts room card.base card.totals (take card.held was) last last.how
 
-abbrev pub Turns : ℕ → List ℕ → Card → Turn → List ℕ → Type 0
-Turns room was card (Turn.On next) left = Carries room was card next left
-Turns room was card (Turn.Over last) left = Stops room was card last
+abbrev pub Turns : ℕ → List ℕ → Card → ControlFlow Last Card → List ℕ → Type 0
+Turns room was card (Continue next) left = Carries room was card next left
+Turns room was card (Break last) left = Stops room was card last
 
 -- The whole run from a start, whose window holds the first bytes: its end is right about all the bytes that were read.
 pub record Runs (room : ℕ) (start : Card) (first : List ℕ) (last : Last) : Type 0 where

@@ -1,10 +1,9 @@
 -- What is listed of a card: its frames up to the first refusal, by the definition's answers to all of its bytes.
-use Rattle.std.specs.Prelude.{ℕ, ◌+◌, ◌*◌, ◌≤◌, min, ◌≡◌, List, [], ◌∷◌, eqb, length, if◌then◌else◌}
+use Rattle.std.specs.Prelude.{ℕ, ◌+◌, ◌*◌, ◌≤◌, min, ◌≡◌, Option, List, [], ◌∷◌, eqb, length, if◌then◌else◌}
+use Rattle.std.specs.Option.{option_or}
 use Rattle.error.specs.Numbers.{number_of}
 use Rattle.rfc9639.specs.Read.{Result, result}
-use Rattle.rfc9639.specs.declared.SampleRate.{SampleRate}
 use Rattle.rfc9639.specs.declared.Settings.{Settings}
-use Rattle.rfc9639.specs.declared.StreamBlock.{StreamBlock}
 use Rattle.rfc9639.specs.FrameByFrame.{answers, stream_settings}
 use Rattle.frame_list.specs.declared.Totals.{Totals}
 use Rattle.frame_list.specs.declared.Listed.{Listed}
@@ -13,29 +12,23 @@ use Rattle.frame_list.specs.declared.Listed.{Listed}
 abbrev pub capped : ℕ → ℕ
 capped n = min n 18446744073709551615
 
--- the sample rate as it is known, or else a frame's
-abbrev pub rate_with : SampleRate → SampleRate → SampleRate
-rate_with (SampleRate.Known rate) own = SampleRate.Known rate
-rate_with SampleRate.Unknown own = own
-
--- the totals with one more frame
-abbrev pub with_frame : Totals → ℕ → ℕ → SampleRate → Totals
+-- the totals with one more frame; the sample rate is as it is known, or else the frame's
+abbrev pub with_frame : Totals → ℕ → ℕ → Option ℕ → Totals
 with_frame t channels size rate = record {
   frames = capped (t.frames + 1);
   samples = capped (t.samples + channels * size);
   length = capped (t.length + size);
-  rate = rate_with t.rate rate;
+  rate = option_or t.rate rate;
   block = t.block;
   stream = t.stream;
 }
 
 -- the size of the stream's blocks: as it is known, or that of the first, if some bytes are the first of the stream
-abbrev pub block_for : StreamBlock → List ℕ → StreamBlock
-block_for (StreamBlock.Known size) s = StreamBlock.Known size
-block_for StreamBlock.Unknown s = (stream_settings s).block
+abbrev pub block_for : Option ℕ → List ℕ → Option ℕ
+block_for known s = option_or known (stream_settings s).block
 
 -- the totals with that size
-abbrev pub with_block : Totals → StreamBlock → Totals
+abbrev pub with_block : Totals → Option ℕ → Totals
 with_block t block = record { frames = t.frames; samples = t.samples; length = t.length; rate = t.rate; block = block; stream = t.stream }
 
 abbrev pub settled : Totals → List ℕ → Totals

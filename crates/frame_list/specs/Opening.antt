@@ -1,48 +1,38 @@
 -- The start of a card: where its stream header ends. The card may be longer than the window, and so may its header: each
 -- promise is about all of the card's bytes, those before the window, those in it and those that follow.
-use Rattle.std.specs.Prelude.{ℕ, ◌+◌, ◌-◌, ◌^◌, ◌≤◌, ◌<◌, min, Bool, true, false, ◌⊎◌, ◌≡◌, List, ◌++◌, eqb, length, take, drop, if◌then◌else◌}
+use Rattle.std.specs.Prelude.{ℕ, ◌+◌, ◌-◌, ◌^◌, ◌≤◌, ◌<◌, min, Bool, true, false, ◌⊎◌, ◌≡◌, Option, None, Some, Result, Ok, Err, List, ◌++◌, eqb, length, take, drop, if◌then◌else◌}
+use Rattle.std.specs.declared.ops.ControlFlow.{ControlFlow}
+use Rattle.std.specs.declared.ops.ControlFlow.TheVariants.{Continue, Break}
 use Rattle.reading.specs.Readers.{Ask, done}
 use Rattle.reading.specs.declared.Place.{Place}
 use Rattle.reading.specs.Places.{At, got_at, refused_at, short_at, run_at, place_of}
 use Rattle.error.specs.declared.Refusal.{Refusal}
 use Rattle.error.specs.Numbers.{number_of}
-use Rattle.rfc9639.specs.declared.SampleRate.{SampleRate}
-use Rattle.rfc9639.specs.declared.StreamBlock.{StreamBlock}
 use Rattle.rfc9639.specs.declared.StreamInfo.{StreamInfo}
-use Rattle.rfc9639.specs.declared.StreamRecord.{StreamRecord}
 use Rattle.rfc9639.specs.StreamHeader.{block_head, skipped_blocks, stream_start, stream_header_of}
 use Rattle.frame_list.specs.declared.Totals.{Totals}
 use Rattle.frame_list.specs.declared.Card.{Card}
 use Rattle.frame_list.specs.declared.How.{How}
 use Rattle.frame_list.specs.declared.Last.{Last}
-use Rattle.frame_list.specs.declared.opening.Hop.{Hop}
 use Rattle.frame_list.specs.declared.opening.Skip.{Skip}
-use Rattle.frame_list.specs.declared.opening.SkipTurn.{SkipTurn}
-use Rattle.frame_list.specs.declared.opening.SkipEnd.{SkipEnd}
-use Rattle.frame_list.specs.declared.opening.StartTurn.{StartTurn}
-use Rattle.frame_list.specs.declared.opening.Started.{Started}
+use Rattle.frame_list.specs.declared.opening.Passed.{Passed}
+use Rattle.frame_list.specs.declared.opening.Start.{Start}
+use Rattle.frame_list.specs.declared.opening.Look.{Look}
 use Rattle.frame_list.specs.declared.opening.Opening.{Opening}
 use Rattle.frame_list.specs.CardProgress.{Sound, no_frames, pending, Continues, Closes}
 
 -- ---- what a stream header tells of the frames after it
 
 -- a rate of 0 tells nothing
-abbrev pub known_rate : ℕ → SampleRate
-known_rate rate = if eqb rate 0 then SampleRate.Unknown else SampleRate.Known rate
-
 abbrev pub told : StreamInfo → Totals
 told info = record {
   frames = 0;
   samples = 0;
   length = 0;
-  rate = known_rate info.rate;
-  block = StreamBlock.Unknown;
-  stream = StreamRecord.Known info.bits info.rate;
+  rate = if eqb info.rate 0 then None else Some info.rate;
+  block = None;
+  stream = Some (record { bits = info.bits; rate = info.rate });
 }
-
--- the card where the frames start
-abbrev pub told_card : StreamInfo → Card → Card
-told_card info card = record { base = card.base; held = card.held; rest = card.rest; totals = told info }
 
 -- ---- the metadata blocks after the first
 
@@ -65,9 +55,9 @@ pub record HopsTo (w : List ℕ) (from : ℕ) (was : Bool) (to : ℕ) (last : Bo
   pub no_head : last ≡ false → run_at block_head w (byte_at to) ≡ short_at
   pub forth : from ≤ to
 
-abbrev pub Hops : List ℕ → ℕ → Bool → Hop → Type 0
-Hops w from was (Hop.At to last) = HopsTo w from was to last
-Hops w from was (Hop.Refused e) = (u more : List ℕ) → 0 < length u + from → blocks_from was (u ++ (w ++ more)) (length u + from) ≡ refused_at (number_of e)
+abbrev pub Hops : List ℕ → ℕ → Bool → Result (ℕ × Bool) Refusal → Type 0
+Hops w from was (Ok (to, last)) = HopsTo w from was to last
+Hops w from was (Err e) = (u more : List ℕ) → 0 < length u + from → blocks_from was (u ++ (w ++ more)) (length u + from) ≡ refused_at (number_of e)
 
 -- ---- the window moves on, as far as it goes, to a place that may be past it
 
@@ -76,10 +66,9 @@ pub record Refilled (was : List ℕ) (card : Card) (pass : ℕ) (last : Bool) (n
   pub same_place : next.pass ≡ pass - min pass card.held
   pub same-last : next.last ≡ last
 
-abbrev pub Moves : List ℕ → Card → ℕ → Bool → SkipTurn → List ℕ → Type 0
-Moves was card pass last (SkipTurn.On next) left = Refilled was card pass last next left
-Moves was card pass last (SkipTurn.Frames next) left = ⊥
-Moves was card pass last (SkipTurn.Over end) left = Closes card (min pass card.held) Refusal.CutShort end
+abbrev pub Moves : List ℕ → Card → ℕ → Bool → ControlFlow Last Skip → List ℕ → Type 0
+Moves was card pass last (Continue next) left = Refilled was card pass last next left
+Moves was card pass last (Break end) left = Closes card (min pass card.held) Refusal.CutShort end
 
 -- or to a place in it
 pub record Moved (was : List ℕ) (card : Card) (pass : ℕ) (next : Card) (left : List ℕ) : Type 0 where
@@ -90,10 +79,9 @@ pub record Moved (was : List ℕ) (card : Card) (pass : ℕ) (next : Card) (left
   pub same-totals : next.totals ≡ card.totals
   pub sound : Sound next (length was)
 
-abbrev pub Arrives : List ℕ → Card → ℕ → SkipTurn → List ℕ → Type 0
-Arrives was card pass (SkipTurn.On next) left = ⊥
-Arrives was card pass (SkipTurn.Frames next) left = Moved was card pass next left
-Arrives was card pass (SkipTurn.Over end) left = end ≡ record { card = card; place = pass; how = How.TooFar }
+abbrev pub Arrives : List ℕ → Card → ℕ → ControlFlow Last Card → List ℕ → Type 0
+Arrives was card pass (Continue next) left = Moved was card pass next left
+Arrives was card pass (Break end) left = end ≡ record { card = card; place = pass; how = How.TooFar }
 
 -- which of the two: if the card ends, its first frame is not reached
 abbrev pub Lacking : Card → ℕ → Bool → How → Type 0
@@ -108,10 +96,10 @@ pub record Stuck (card : Card) (pass : ℕ) (last : Bool) (end : Last) : Type 0 
   pub place-fits : end.place ≤ card.held
   pub how : Lacking card pass last end.how
 
-abbrev pub Passes : List ℕ → Card → ℕ → Bool → SkipTurn → List ℕ → Type 0
-Passes was card pass last (SkipTurn.On next) left = Refilled was card pass last next left
-Passes was card pass last (SkipTurn.Frames next) left = (last ≡ true) × Moved was card pass next left
-Passes was card pass last (SkipTurn.Over end) left = Stuck card pass last end
+abbrev pub Passes : List ℕ → Card → ℕ → Bool → ControlFlow Last Passed → List ℕ → Type 0
+Passes was card pass last (Continue (Passed.On next)) left = Refilled was card pass last next left
+Passes was card pass last (Continue (Passed.Frames next)) left = (last ≡ true) × Moved was card pass next left
+Passes was card pass last (Break end) left = Stuck card pass last end
 
 -- ---- one look at the window, and all of them
 
@@ -140,10 +128,10 @@ pub record Ends (was : List ℕ) (skip : Skip) (end : Last) : Type 0 where
   pub place-fits : end.place ≤ skip.card.held
   pub tells : (u : List ℕ) → 0 < length u + skip.pass → Tells (λ s. blocks_from skip.last s (length u + skip.pass)) (u ++ take skip.card.held was) end.how
 
-abbrev pub SkipTurns : List ℕ → Skip → SkipTurn → List ℕ → Type 0
-SkipTurns was skip (SkipTurn.On next) left = GoesOn was skip next left
-SkipTurns was skip (SkipTurn.Frames next) left = ToFrames was skip next left
-SkipTurns was skip (SkipTurn.Over end) left = Ends was skip end
+abbrev pub SkipTurns : List ℕ → Skip → ControlFlow Last Passed → List ℕ → Type 0
+SkipTurns was skip (Continue (Passed.On next)) left = GoesOn was skip next left
+SkipTurns was skip (Continue (Passed.Frames next)) left = ToFrames was skip next left
+SkipTurns was skip (Break end) left = Ends was skip end
 
 -- A card whose first bytes are `first`: `head` stands before the window in the end, and what the window holds after it.
 pub record SkipsAll (first : List ℕ) (start : Skip) (next : Card) (left : List ℕ) : Type 0 where
@@ -160,17 +148,17 @@ pub record SkipsTo (first : List ℕ) (start : Skip) (end : Last) : Type 0 where
   pub numbered : end.card.base + end.card.held < 2 ^ 64
   pub place-fits : end.place ≤ end.card.held
 
-abbrev pub Skips : List ℕ → Skip → SkipEnd → List ℕ → Type 0
-Skips first start (SkipEnd.Frames next) left = SkipsAll first start next left
-Skips first start (SkipEnd.Over end) left = SkipsTo first start end
+abbrev pub Skips : List ℕ → Skip → ControlFlow Last Card → List ℕ → Type 0
+Skips first start (Continue next) left = SkipsAll first start next left
+Skips first start (Break end) left = SkipsTo first start end
 
 -- ---- the card's first bytes
 
-abbrev pub Waits : List ℕ → Card → StartTurn → List ℕ → Type 0
-Waits was card (StartTurn.On next) left = Continues was card 0 next left
-Waits was card (StartTurn.Bare next) left = (next ≡ card) × (left ≡ was) × (card.held < 4) × (pending card.rest ≡ 0)
-Waits was card (StartTurn.Header info skip) left = ⊥
-Waits was card (StartTurn.Over end) left = Closes card 0 Refusal.CutShort end
+abbrev pub Waits : List ℕ → Card → ControlFlow Last Look → List ℕ → Type 0
+Waits was card (Continue (Look.On next)) left = Continues was card 0 next left
+Waits was card (Continue (Look.At (Start.Bare next))) left = (next ≡ card) × (left ≡ was) × (card.held < 4) × (pending card.rest ≡ 0)
+Waits was card (Continue (Look.At (Start.Header info skip))) left = ⊥
+Waits was card (Break end) left = Closes card 0 Refusal.CutShort end
 
 -- how the run may end in this window, by the refusal of the mark and STREAMINFO
 abbrev pub Refusing : Refusal → How → Type 0
@@ -185,11 +173,11 @@ pub record Unfound (card : Card) (e : Refusal) (end : Last) : Type 0 where
   pub same_place : end.place ≡ 0
   pub how : Refusing e end.how
 
-abbrev pub Unstarted : List ℕ → Card → Refusal → StartTurn → List ℕ → Type 0
-Unstarted was card e (StartTurn.On next) left = Continues was card 0 next left
-Unstarted was card e (StartTurn.Bare next) left = (next ≡ card) × (left ≡ was) × ((number_of e ≡ 3) ⊎ ((card.held < 4) × (pending card.rest ≡ 0)))
-Unstarted was card e (StartTurn.Header info skip) left = ⊥
-Unstarted was card e (StartTurn.Over end) left = Unfound card e end
+abbrev pub Unstarted : List ℕ → Card → Refusal → ControlFlow Last Look → List ℕ → Type 0
+Unstarted was card e (Continue (Look.On next)) left = Continues was card 0 next left
+Unstarted was card e (Continue (Look.At (Start.Bare next))) left = (next ≡ card) × (left ≡ was) × ((number_of e ≡ 3) ⊎ ((card.held < 4) × (pending card.rest ≡ 0)))
+Unstarted was card e (Continue (Look.At (Start.Header info skip))) left = ⊥
+Unstarted was card e (Break end) left = Unfound card e end
 
 -- A card without a stream header: its first bytes are no mark, whatever follows them; or there are fewer than four, and no
 -- more can be read.
@@ -206,11 +194,11 @@ pub record NotFound (s : List ℕ) (card : Card) (end : Last) : Type 0 where
   pub same_place : end.place ≡ 0
   pub tells : Tells stream_header_of s end.how
 
-abbrev pub StartTurns : List ℕ → Card → StartTurn → List ℕ → Type 0
-StartTurns was card (StartTurn.On next) left = Continues was card 0 next left
-StartTurns was card (StartTurn.Bare next) left = (next ≡ card) × (left ≡ was) × Unmarked card (take card.held was)
-StartTurns was card (StartTurn.Header info skip) left = (left ≡ was) × Found (take card.held was) card info skip
-StartTurns was card (StartTurn.Over end) left = NotFound (take card.held was) card end
+abbrev pub StartTurns : List ℕ → Card → ControlFlow Last Look → List ℕ → Type 0
+StartTurns was card (Continue (Look.On next)) left = Continues was card 0 next left
+StartTurns was card (Continue (Look.At (Start.Bare next))) left = (next ≡ card) × (left ≡ was) × Unmarked card (take card.held was)
+StartTurns was card (Continue (Look.At (Start.Header info skip))) left = (left ≡ was) × Found (take card.held was) card info skip
+StartTurns was card (Break end) left = NotFound (take card.held was) card end
 
 -- ---- the whole
 
@@ -231,10 +219,10 @@ pub record HeaderOver (end : Last) : Type 0 where
   pub numbered : end.card.base + end.card.held < 2 ^ 64
   pub place-fits : end.place ≤ end.card.held
 
-abbrev pub Starts : List ℕ → Started → Type 0
-Starts left (Started.Bare card) = Bare card (length left) × Unmarked card (take card.held left)
-Starts left (Started.Header info skip) = Headed info skip left
-Starts left (Started.Over end) = HeaderOver end
+abbrev pub Starts : List ℕ → ControlFlow Last Start → Type 0
+Starts left (Continue (Start.Bare card)) = Bare card (length left) × Unmarked card (take card.held left)
+Starts left (Continue (Start.Header info skip)) = Headed info skip left
+Starts left (Break end) = HeaderOver end
 
 -- The stream header is that of all the card's bytes, those before the window among them. It ends where the window starts,
 -- and the frames are read with what it tells.
@@ -245,7 +233,11 @@ pub record Stream (info : StreamInfo) (card : Card) (left : List ℕ) : Type 0 w
   pub tells : card.totals ≡ told info
   pub sound : Sound card (length left)
 
-abbrev pub Opens : List ℕ → Opening → Type 0
-Opens left (Opening.Bare card) = Bare card (length left) × Unmarked card (take card.held left)
-Opens left (Opening.Stream info card) = Stream info card left
-Opens left (Opening.Over end) = HeaderOver end
+-- where the frames start, after a stream header or not
+abbrev pub Begins : Option StreamInfo → Card → List ℕ → Type 0
+Begins None card left = Bare card (length left) × Unmarked card (take card.held left)
+Begins (Some info) card left = Stream info card left
+
+abbrev pub Opens : List ℕ → ControlFlow Last Opening → Type 0
+Opens left (Continue o) = Begins o.header o.card left
+Opens left (Break end) = HeaderOver end

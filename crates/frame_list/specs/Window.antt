@@ -1,20 +1,7 @@
--- What a read and a fill do to the window.
-use Rattle.std.specs.Prelude.{ℕ, ◌+◌, ◌≤◌, ◌<◌, ◌≡◌, List, length, take}
-use Rattle.frame_list.specs.declared.window.SystemRead.{SystemRead}
+-- What a fill does to the window.
+use Rattle.std.specs.Prelude.{ℕ, ◌≤◌, ◌≡◌, List, length, take}
 use Rattle.frame_list.specs.declared.window.Rest.{Rest}
 use Rattle.frame_list.specs.declared.window.Filled.{Filled}
-
--- a read that succeeds brings at least one byte, and its bytes fit the window after those held
-abbrev pub Brought : SystemRead → ℕ → ℕ → Type 0
-Brought (SystemRead.Bytes n) held room = (0 < n) × (held + n ≤ room)
-Brought SystemRead.Ended held room = Unit {0}
-Brought SystemRead.Interrupted held room = Unit {0}
-Brought (SystemRead.Failed error) held room = Unit {0}
-
--- A read leaves the bytes that were held.
-pub record ReadAfter (was : List ℕ) (held : ℕ) (r : SystemRead) (left : List ℕ) : Type 0 where
-  pub kept : take held left ≡ take held was
-  pub brought : Brought r held (length was)
 
 -- if more may follow, then at least the wanted bytes are held
 abbrev pub Enough : Rest → ℕ → ℕ → Type 0

@@ -17,25 +17,26 @@
 // card's first; the bits and the rate that a frame leaves to the stream are those of the stream header.
 #![tactic(auto)]
 
-mod line;
 mod opening;
 mod report;
 mod window;
 
 ghost use Rattle.std.specs.Prelude.{◌+◌, ◌*◌, ◌^◌, ◌<◌, ◌≤◌, ◌≡◌, length, take};
+ghost use Rattle.std.specs.declared.ops.ControlFlow.TheVariants.{Break};
 ghost use Rattle.frame_list.specs.declared.window.Rest.{Rest as RestOf};
-ghost use Rattle.frame_list.specs.Listing.{capped, rate_with, with_frame, block_for, Lists};
+ghost use Rattle.frame_list.specs.Listing.{with_frame, block_for, Lists};
 ghost use Rattle.frame_list.specs.CardProgress.{Sound, Stays, Refills, Turns, Runs};
 
 use error::{Need, Refusal};
-use frame::{Accepted, ReadAnswer};
+use frame::Accepted;
 use opening::Opening;
-use report::Said;
-use rfc9639::{SampleRate, Settings, StreamBlock, StreamRecord};
+use report::NoCard;
+use rfc9639::{Settings, StreamRecord};
 use std::env::{Env, FillError};
 use std::fs::File;
 use std::io::Stdin;
-use window::Rest;
+use std::ops::ControlFlow;
+use window::{Filled, Rest};
 
 // How many bytes of the card are in memory at a time. Eight channels of 65,535 verbatim samples of 24 bits take at most
 // 1,572,866.
@@ -43,6 +44,9 @@ pub const WINDOW: usize = 2097152;
 
 // Room for eight channels of 65,535 samples, which no frame exceeds.
 const ROOM: usize = 524280;
+
+// The most bytes of a name that the system takes.
+const LONGEST_NAME: usize = 4096;
 
 // The system's error numbers of a name that is too long, and of one that is no text.
 const ENAMETOOLONG: i32 = 36;
@@ -52,19 +56,35 @@ const EILSEQ: i32 = 84;
 // What the card told so far: how many frames there were, how many samples they had in all channels and in each one, the
 // sample rate, which the stream header gives or else the first frame that has one, the size of the stream's blocks,
 // which the first frame gives, and what the stream header gives to all frames.
-#[derive(Clone, Copy)]
+#[derive(Clone, Copy, Debug, Default, PartialEq, Eq)]
 pub struct Totals {
     pub frames: u64,
     pub samples: u64,
     pub length: u64,
-    pub rate: SampleRate,
-    pub block: StreamBlock,
-    pub stream: StreamRecord,
+    pub rate: Option<u32>,
+    pub block: Option<usize>,
+    pub stream: Option<StreamRecord>,
+}
+
+impl Totals {
+    // The totals with one more frame.
+    fn with_frame(self, f: Accepted) -> Totals
+        requires { f.channels * f.size < 2 ^ 64 }
+        ensures { result ≡ with_frame self f.channels f.size f.rate }
+    {
+        Totals {
+            frames: self.frames.saturating_add(1),
+            samples: self.samples.saturating_add((f.channels * f.size) as u64),
+            length: self.length.saturating_add(f.size as u64),
+            rate: self.rate.or(f.rate),
+            ..self
+        }
+    }
 }
 
 // How far the card has been read: the place on the card of the window's first byte, how many bytes the window holds,
 // what follows them, and the totals of the frames before the window.
-#[derive(Clone, Copy)]
+#[derive(Clone, Copy, Debug, PartialEq, Eq)]
 pub struct Card {
     pub base: u64,
     pub held: usize,
@@ -72,8 +92,21 @@ pub struct Card {
     pub totals: Totals,
 }
 
+impl Card {
+    // The run is over at this place of the window.
+    fn over<T>(self, place: usize, how: How) -> Turn<T>
+        ensures { result ≡ Break (record { card = self; place = place; how = how }) }
+    {
+        ControlFlow::Break(Last {
+            card: self,
+            place,
+            how,
+        })
+    }
+}
+
 // The frames in a window: the place after the last one, why no frame was read there, and the totals up to there.
-#[derive(Clone, Copy)]
+#[derive(Clone, Copy, Debug, PartialEq, Eq)]
 pub struct Listed {
     pub place: usize,
     pub refusal: Refusal,
@@ -81,7 +114,7 @@ pub struct Listed {
 }
 
 // How the run ended.
-#[derive(Clone, Copy)]
+#[derive(Clone, Copy, Debug, PartialEq, Eq)]
 pub enum How {
     // The card ends here, after a frame or in the middle of one.
     Ended(Refusal),
@@ -96,19 +129,15 @@ pub enum How {
 }
 
 // Where the run ended: the window, with the totals up to a place in it; that place; and how.
-#[derive(Clone, Copy)]
+#[derive(Clone, Copy, Debug, PartialEq, Eq)]
 pub struct Last {
     pub card: Card,
     pub place: usize,
     pub how: How,
 }
 
-// Whether there is more to read.
-#[derive(Clone, Copy)]
-pub enum Turn {
-    On(Card),
-    Over(Last),
-}
+// What a step of the run gives: something to go on with, or the end of the run.
+pub type Turn<T> = ControlFlow<Last, T>;
 
 // What a card is read from.
 #[derive(Drop)]
@@ -117,99 +146,42 @@ pub enum Source {
     Named(File),
 }
 
-// An open card, or the system's error number.
-#[derive(Drop)]
-pub enum Opened {
-    At(Source),
-    Failed(i32),
-}
-
-// What the first argument asks for.
-#[derive(Clone, Copy)]
-pub enum Word {
-    Help,
-    Input,
-    Unknown,
-    Name,
-}
-
-// A sum that stops at the largest number of 64 bits.
-fn sum(a: u64, b: u64) -> u64
-    ensures { result ≡ capped (a + b) }
-{
-    if b <= u64::MAX - a { a + b } else { u64::MAX }
-}
-
 // The size of the stream's blocks: once it is known it stays; before, these bytes are the first of the card.
-fn stream_block(bytes: &[u8], known: StreamBlock) -> StreamBlock
+fn stream_block(bytes: &[u8], known: Option<usize>) -> Option<usize>
     ensures { result ≡ block_for known bytes.now }
 {
-    match known {
-        StreamBlock::Known(_) => known,
-        StreamBlock::Unknown => {
-            let set = walk::stream_settings(bytes);
-            set.block
-        }
-    }
-}
-
-// The sample rate: once it is known it stays.
-fn rate_with(known: SampleRate, own: SampleRate) -> SampleRate
-    ensures { result ≡ rate_with known own }
-{
-    match known {
-        SampleRate::Known(_) => known,
-        SampleRate::Unknown => own,
-    }
-}
-
-// The totals with one more frame.
-fn with_frame(t: Totals, f: Accepted) -> Totals
-    requires { f.channels * f.size < 2 ^ 64 }
-    ensures { result ≡ with_frame t f.channels f.size f.rate }
-{
-    let known = t.rate;
-    let own = f.rate;
-    let block = t.block;
-    let stream = t.stream;
-    Totals {
-        frames: sum(t.frames, 1),
-        samples: sum(t.samples, (f.channels * f.size) as u64),
-        length: sum(t.length, f.size as u64),
-        rate: rate_with(known, own),
-        block,
-        stream,
-    }
+    known.or_else(|| walk::stream_settings(bytes).block)
 }
 
 // Lists the frames that are complete within the bytes. The first byte is at `base` on the card.
-fn list_frames(bytes: &[u8], base: u64, before: Totals, samples: &mut [i32]) -> Listed
+fn list_frames(
+    rt: &HostRuntime,
+    bytes: &[u8],
+    base: u64,
+    before: Totals,
+    samples: &mut [i32],
+) -> Listed
     requires { base + length bytes.now < 2 ^ 64 }
     ensures { Lists bytes.now base before (length samples.old) result }
 {
-    let known = before.block;
-    let rate = before.rate;
-    let stream = before.stream;
-    let block = stream_block(bytes, known);
+    let set = Settings {
+        block: stream_block(bytes, before.block),
+        stream: before.stream,
+    };
     let mut place = 0;
     let mut totals = Totals {
-        frames: before.frames,
-        samples: before.samples,
-        length: before.length,
-        rate,
-        block,
-        stream,
+        block: set.block,
+        ..before
     };
     loop {
-        let step = walk::read_next(bytes, place, Settings { block, stream }, samples);
-        let answer = step.answer;
-        match answer {
-            ReadAnswer::Frame(f) => {
-                report::frame_line(base + place as u64, f);
-                totals = with_frame(totals, f);
+        let step = walk::read_next(bytes, place, set, samples);
+        match step.answer {
+            Ok(f) => {
+                report::frame_line(rt, base + place as u64, f);
+                totals = totals.with_frame(f);
                 place = step.place;
             }
-            ReadAnswer::Refused(refusal) => {
+            Err(refusal) => {
                 return Listed {
                     place,
                     refusal,
@@ -222,39 +194,21 @@ fn list_frames(bytes: &[u8], base: u64, before: Totals, samples: &mut [i32]) -> 
 
 // What follows on the card when the window is full.
 fn rest_after(source: &Source) -> Rest {
-    let mut one = [0u8; 1];
-    let next = window::fill_to(source, &mut one, 0, 1);
-    next.rest
+    window::fill_to(source, &mut [0u8; 1], 0, 1).rest
 }
 
 // What may be one frame fills the whole window, so `place` is 0 here.
-fn full(card: Card, place: usize, rest: Rest) -> Turn
+fn full(card: Card, place: usize, rest: Rest) -> Turn<Card>
     ensures { Stays card place result }
 {
-    let totals = card.totals;
     match rest {
-        Rest::More => Turn::Over(Last {
-            card,
-            place,
-            how: How::TooLong,
-        }),
-        Rest::Ended => Turn::On(Card {
-            base: card.base,
-            held: card.held,
-            rest: Rest::Ended,
-            totals,
-        }),
-        Rest::Failed(error) => Turn::On(Card {
-            base: card.base,
-            held: card.held,
-            rest: Rest::Failed(error),
-            totals,
-        }),
+        Rest::More => card.over(place, How::TooLong),
+        Rest::Ended | Rest::Failed(_) => ControlFlow::Continue(Card { rest, ..card }),
     }
 }
 
 // Keeps what the window holds from a place on, and reads more of the card after it.
-fn go_on(source: &Source, card: Card, place: usize, e: Refusal, window: &mut [u8]) -> Turn
+fn go_on(source: &Source, card: Card, place: usize, e: Refusal, window: &mut [u8]) -> Turn<Card>
     requires { Sound card (length window.old) × (place ≤ card.held) × (card.rest ≡ RestOf.More) }
     ensures { Refills window.old card place e result window.new }
 {
@@ -265,229 +219,159 @@ fn go_on(source: &Source, card: Card, place: usize, e: Refusal, window: &mut [u8
     }
     let base = card.base + place as u64;
     if u64::MAX - base < room as u64 {
-        return Turn::Over(Last {
-            card,
-            place,
-            how: How::TooFar,
-        });
+        return card.over(place, How::TooFar);
     }
-    let totals = card.totals;
     window::shift(window, place, card.held);
-    let filled = window::fill_to(source, window, left, window::next_wanted(left, room));
-    let rest = filled.rest;
-    Turn::On(Card {
+    let Filled { held, rest } = window::fill_to(
+        source,
+        window,
+        left,
+        window::next_wanted(left, room),
+    );
+    ControlFlow::Continue(Card {
         base,
-        held: filled.held,
+        held,
         rest,
-        totals,
+        ..card
     })
 }
 
 // The frame at this place of the window is not complete.
-fn wait(source: &Source, card: Card, place: usize, e: Refusal, window: &mut [u8]) -> Turn
+fn wait(source: &Source, card: Card, place: usize, e: Refusal, window: &mut [u8]) -> Turn<Card>
     requires { Sound card (length window.old) × (place ≤ card.held) }
     ensures { Refills window.old card place e result window.new }
 {
-    let rest = card.rest;
-    match rest {
+    match card.rest {
         Rest::More => go_on(source, card, place, e, window),
-        Rest::Ended => Turn::Over(Last {
-            card,
-            place,
-            how: How::Ended(e),
-        }),
-        Rest::Failed(error) => Turn::Over(Last {
-            card,
-            place,
-            how: How::Unread(error),
-        }),
+        Rest::Ended => card.over(place, How::Ended(e)),
+        Rest::Failed(error) => card.over(place, How::Unread(error)),
     }
 }
 
 // Lists the frames in the window, and refills it for those that follow.
-fn advance(source: &Source, card: Card, window: &mut [u8], samples: &mut [i32]) -> Turn
+fn advance(
+    rt: &HostRuntime,
+    source: &Source,
+    card: Card,
+    window: &mut [u8],
+    samples: &mut [i32],
+) -> Turn<Card>
     requires { Sound card (length window.old) }
     ensures { Turns (length samples.old) window.old card result window.new }
 {
-    let held = card.held;
-    let listed = list_frames(&window[..held], card.base, card.totals, samples);
-    let place = listed.place;
-    let totals = listed.totals;
-    let refusal = listed.refusal;
-    let rest = card.rest;
-    let read = Card {
-        base: card.base,
-        held,
-        rest,
+    let Listed {
+        place,
+        refusal,
         totals,
-    };
-    let need = error::needs(refusal);
-    match need {
+    } = list_frames(rt, &window[..card.held], card.base, card.totals, samples);
+    let read = Card { totals, ..card };
+    match refusal.needs() {
         Need::Wait => wait(source, read, place, refusal, window),
-        Need::Room => Turn::Over(Last {
-            card: read,
-            place,
-            how: How::Refused(refusal),
-        }),
-        Need::Final => Turn::Over(Last {
-            card: read,
-            place,
-            how: How::Refused(refusal),
-        }),
+        Need::Room | Need::Final => read.over(place, How::Refused(refusal)),
     }
 }
 
 // From where the frames start to where the run ends.
-fn read_card(source: &Source, start: Card, window: &mut [u8], samples: &mut [i32]) -> Last
+fn read_card(
+    rt: &HostRuntime,
+    source: &Source,
+    start: Card,
+    window: &mut [u8],
+    samples: &mut [i32],
+) -> Last
     requires { Sound start (length window.old) }
     ensures { Runs (length samples.old) start (take start.held window.old) result }
 {
     let mut card = start;
     loop {
-        let turn = advance(source, card, window, samples);
-        match turn {
-            Turn::On(next) => card = next,
-            Turn::Over(last) => return last,
+        match advance(rt, source, card, window, samples) {
+            ControlFlow::Continue(next) => card = next,
+            ControlFlow::Break(last) => return last,
         }
     }
 }
 
 // Writes the last line.
-fn write_last_line(last: Last)
+fn write_last_line(rt: &HostRuntime, last: Last)
     requires { (last.card.base + last.card.held < 2 ^ 64) × (last.place ≤ last.card.held) }
 {
-    let card = last.card;
-    let at = card.base + last.place as u64;
-    let totals = card.totals;
-    let how = last.how;
-    match how {
-        How::Ended(e) => report::ended(totals, at, e),
-        How::Refused(e) => report::refused(totals, at, e),
-        How::Unread(error) => report::unread(totals, card.base + card.held as u64, error),
-        How::TooLong => report::too_long(totals, at),
-        How::TooFar => report::too_far(totals, at),
-    }
+    let Last { card, place, how } = last;
+    let place = match how {
+        How::Unread(_) => card.held,
+        _ => place,
+    };
+    report::last_line(rt, card.totals, card.base + place as u64, how);
 }
 
 // The same, where the run ended within the stream header.
-fn write_header_over(last: Last)
+fn write_header_over(rt: &HostRuntime, last: Last)
     requires { (last.card.base + last.card.held < 2 ^ 64) × (last.place ≤ last.card.held) }
 {
-    let how = last.how;
-    match how {
-        How::Ended(e) => report::header_refused(e),
-        How::Refused(e) => report::header_refused(e),
-        _ => write_last_line(last),
+    match last.how {
+        How::Ended(e) | How::Refused(e) => report::header_refused(rt, last.card.totals, e),
+        How::Unread(_) | How::TooLong | How::TooFar => write_last_line(rt, last),
     }
 }
 
-// The frames of the card and the lines after them.
-fn list_from(source: &Source, start: Card, said: Said, window: &mut [u8], samples: &mut [i32])
-    requires { Sound start (length window.old) }
-{
-    let last = read_card(source, start, window, samples);
-    let card = last.card;
-    let totals = card.totals;
-    report::length_line(totals, said);
-    write_last_line(last);
-}
-
-// The stream header, if there is one, and the frames.
-fn list_card(source: &Source, window: &mut [u8], samples: &mut [i32])
+// The stream header, if there is one, the frames and the lines after them.
+fn list_card(rt: &HostRuntime, source: &Source, window: &mut [u8], samples: &mut [i32])
     requires { length window.old < 2 ^ 64 }
 {
-    let opening = opening::read_opening(source, window);
-    match opening {
-        Opening::Bare(card) => list_from(source, card, Said::Nothing, window, samples),
-        Opening::Stream(info, card) => {
-            report::stream_line(card.base, info);
-            list_from(source, card, Said::Samples(info.samples), window, samples);
+    match opening::read_opening(source, window) {
+        ControlFlow::Continue(Opening { header, card }) => {
+            if let Some(info) = header {
+                report::stream_line(rt, card.base, info);
+            }
+            let last = read_card(rt, source, card, window, samples);
+            report::length_line(rt, last.card.totals, header.map(|info| info.samples));
+            write_last_line(rt, last);
         }
-        Opening::Over(last) => write_header_over(last),
+        ControlFlow::Break(last) => write_header_over(rt, last),
     }
 }
 
 // Turns the arrays into slices, away from the function that owns them.
-fn list_into(source: &Source, window: &mut [u8; WINDOW], samples: &mut [i32; ROOM]) {
-    list_card(source, window, samples);
-}
-
-// What a first argument is, by its first bytes.
-fn word_of(text: &[u8]) -> Word {
-    if text.len() == 0 {
-        return Word::Name;
-    }
-    if text[0] != b'-' {
-        return Word::Name;
-    }
-    if text.len() == 1 {
-        return Word::Input;
-    }
-    if check::same(text, b"--help") {
-        return Word::Help;
-    }
-    if check::same(text, b"-h") {
-        return Word::Help;
-    }
-    Word::Unknown
+fn list_into(
+    rt: &HostRuntime,
+    source: &Source,
+    window: &mut [u8; WINDOW],
+    samples: &mut [i32; ROOM],
+) {
+    list_card(rt, source, window, samples);
 }
 
 // Opens the card of this name. std names files by text alone, so any other name is refused.
-fn open_card(rt: &HostRuntime, name: &[u8]) -> Opened {
-    match str::from_utf8(name) {
-        Ok(text) => match File::open(rt, text) {
-            Ok(file) => Opened::At(Source::Named(file)),
-            Err(e) => Opened::Failed(window::number_in(e)),
+fn open_card(rt: &HostRuntime, name: &[u8]) -> Result<Source, NoCard> {
+    let Ok(text) = str::from_utf8(name) else {
+        return Err(NoCard::Unopened(EILSEQ));
+    };
+    match File::open(rt, text) {
+        Ok(file) => Ok(Source::Named(file)),
+        Err(e) => Err(NoCard::Unopened(window::number_in(e))),
+    }
+}
+
+// The card that the arguments name.
+fn card_named(rt: &HostRuntime) -> Result<Source, NoCard> {
+    let mut text = [0u8; LONGEST_NAME];
+    if !matches!(rt.arg(2, &mut text), Err(FillError::NotPresent)) {
+        return Err(NoCard::TwoNames);
+    }
+    match rt.arg(1, &mut text) {
+        Ok(n) => match &text[..n] {
+            b"-" => Ok(Source::Input(rt.stdin())),
+            b"-h" | b"--help" => Err(NoCard::Help),
+            [b'-', ..] => Err(NoCard::UnknownArgument),
+            name => open_card(rt, name),
         },
-        Err(_) => Opened::Failed(EILSEQ),
-    }
-}
-
-// Lists the card of this name.
-fn list_named(rt: &HostRuntime, name: &[u8], window: &mut [u8; WINDOW], samples: &mut [i32; ROOM]) {
-    let opened = open_card(rt, name);
-    match opened {
-        Opened::At(source) => list_into(&source, window, samples),
-        Opened::Failed(error) => report::unopened(error),
-    }
-}
-
-// Lists the card on standard input.
-fn list_input(rt: &HostRuntime, window: &mut [u8; WINDOW], samples: &mut [i32; ROOM]) {
-    let source = Source::Input(rt.stdin());
-    list_into(&source, window, samples);
-}
-
-// Does what the first argument asks for.
-fn obey(rt: &HostRuntime, text: &[u8], window: &mut [u8; WINDOW], samples: &mut [i32; ROOM]) {
-    let word = word_of(text);
-    match word {
-        Word::Help => report::usage(),
-        Word::Input => list_input(rt, window, samples),
-        Word::Unknown => report::unknown_argument(),
-        Word::Name => list_named(rt, text, window, samples),
-    }
-}
-
-fn has_argument(rt: &HostRuntime, number: usize) -> bool {
-    let mut text = io::buffer();
-    match rt.arg(number, &mut text) {
-        Err(FillError::NotPresent) => false,
-        _ => true,
+        Err(FillError::NotPresent) => Ok(Source::Input(rt.stdin())),
+        Err(FillError::TooLong) => Err(NoCard::Unopened(ENAMETOOLONG)),
     }
 }
 
 fn main(rt: HostRuntime) {
-    let mut window = [0u8; WINDOW];
-    let mut samples = [0i32; ROOM];
-    if has_argument(&rt, 2) {
-        report::two_names();
-        return;
-    }
-    let mut text = io::buffer();
-    match rt.arg(1, &mut text) {
-        Ok(n) => obey(&rt, &text[..n], &mut window, &mut samples),
-        Err(FillError::NotPresent) => list_input(&rt, &mut window, &mut samples),
-        Err(FillError::TooLong) => report::unopened(ENAMETOOLONG),
+    match card_named(&rt) {
+        Ok(source) => list_into(&rt, &source, &mut [0; WINDOW], &mut [0; ROOM]),
+        Err(why) => report::no_card(&rt, why),
     }
 }

@@ -1,253 +1,187 @@
 // The start of the card: its stream header, if it has one (RFC 9639 sections 6 and 8). The header may be longer than the
 // window: of a metadata block after the first only its head is looked at, and the rest is passed as it comes. What is
 // found is what the definition finds on all of the card's bytes (specs/Opening.antt).
-ghost use Rattle.std.specs.Prelude.{◌^◌, ◌<◌, ◌≤◌, ◌≡◌, eqb, length, take};
-ghost use Rattle.frame_list.specs.CardProgress.{Sound, pending};
-ghost use Rattle.frame_list.specs.Opening.{told, known_rate, told_card, Hops, Moves, Arrives, Passes, SkipTurns, Skips, Waits, Unstarted, StartTurns, Starts, Opens};
+ghost use Rattle.std.specs.Prelude.{◌^◌, ◌<◌, ◌≤◌, ◌≡◌, length, take};
+ghost use Rattle.frame_list.specs.CardProgress.{Sound};
+ghost use Rattle.frame_list.specs.Opening.{told, Hops, Moves, Arrives, Passes, SkipTurns, Skips, Waits, Unstarted, StartTurns, Starts, Opens};
 
 use crate::window::Rest;
-use crate::{Card, How, Last, Source, Totals, Turn, wait, window};
+use crate::{Card, How, Source, Totals, Turn, wait, window};
 use error::Refusal;
 use reading::Place;
-use rfc9639::{SampleRate, StreamBlock, StreamInfo, StreamRecord};
-use stream::{BlockHead, StartRead};
-
-// Where the next metadata block starts in the window, or, after the last one, the first frame: `true`. The place may be
-// past the bytes that are held. Or why there is no such block.
-#[derive(Clone, Copy)]
-pub enum Hop {
-    At(usize, bool),
-    Refused(Refusal),
-}
+use rfc9639::{StreamInfo, StreamRecord};
+use std::ops::ControlFlow;
 
 // The card, and where in its window the next metadata block starts, or, if `last`, the first frame.
-#[derive(Clone, Copy)]
+#[derive(Clone, Copy, Debug, PartialEq, Eq)]
 pub struct Skip {
     pub card: Card,
     pub pass: usize,
     pub last: bool,
 }
 
-#[derive(Clone, Copy)]
-pub enum SkipTurn {
+// What a look at the window's metadata blocks leads to: more of them, or the frames.
+#[derive(Clone, Copy, Debug, PartialEq, Eq)]
+pub enum Passed {
     On(Skip),
     Frames(Card),
-    Over(Last),
 }
 
-#[derive(Clone, Copy)]
-pub enum SkipEnd {
-    Frames(Card),
-    Over(Last),
+// What a card starts with: no stream header, or the mark and STREAMINFO, with the blocks after it still to be passed.
+#[derive(Clone, Copy, Debug, PartialEq, Eq)]
+pub enum Start {
+    Bare(Card),
+    Header(StreamInfo, Skip),
 }
 
-// What one look at the card's first bytes tells: nothing yet; no stream header; the mark and STREAMINFO, with the blocks
-// after it still to be passed; or the end of the run.
-#[derive(Clone, Copy)]
-pub enum StartTurn {
+// What one look at the card's first bytes tells: nothing yet, or what it starts with.
+#[derive(Clone, Copy, Debug, PartialEq, Eq)]
+pub enum Look {
     On(Card),
-    Bare(Card),
-    Header(StreamInfo, Skip),
-    Over(Last),
+    At(Start),
 }
 
-#[derive(Clone, Copy)]
-pub enum Started {
-    Bare(Card),
-    Header(StreamInfo, Skip),
-    Over(Last),
+// The card where its frames start, and the stream header before them, if there is one.
+#[derive(Clone, Copy, Debug, PartialEq, Eq)]
+pub struct Opening {
+    pub header: Option<StreamInfo>,
+    pub card: Card,
 }
 
-// The card where its frames start, after a stream header or not; or the end of the run within a stream header.
-#[derive(Clone, Copy)]
-pub enum Opening {
-    Bare(Card),
-    Stream(StreamInfo, Card),
-    Over(Last),
-}
-
-// Passes all blocks whose heads are among the bytes, from a place on.
-fn pass_heads(bytes: &[u8], start: usize, done: bool) -> Hop
+// Passes all blocks whose heads are among the bytes, from a place on, unless that is after the last one (`done`). Gives
+// the place after them, which may be past the bytes, and whether it is after the last block, where the frames start.
+fn pass_heads(bytes: &[u8], start: usize, done: bool) -> Result<(usize, bool), Refusal>
     ensures { Hops bytes.now start done result }
 {
-    if done {
-        return Hop::At(start, true);
-    }
     let mut pass = start;
-    loop {
-        let head = stream::read_block_head(bytes, Place { byte: pass, bit: 0 });
-        match head {
-            BlockHead::Head(last, size, end) => {
-                let next = end.byte + size as usize;
-                if last {
-                    return Hop::At(next, true);
-                }
-                pass = next;
+    let mut last = done;
+    while !last {
+        match stream::read_block_head(bytes, Place { byte: pass, bit: 0 }) {
+            Ok(((is_last, size), end)) => {
+                pass = end.byte + size as usize;
+                last = is_last;
             }
-            BlockHead::Refused(e) => {
-                if error::number_of(e) == 2 {
-                    return Hop::At(pass, false);
-                }
-                return Hop::Refused(e);
+            Err(e) => {
+                return match e {
+                    Refusal::CutShort => Ok((pass, false)),
+                    _ => Err(e),
+                };
             }
         }
     }
+    Ok((pass, true))
 }
 
 // Drops the bytes before the place from the window, as far as they are there, and reads more of the card.
-fn refill(source: &Source, card: Card, pass: usize, last: bool, window: &mut [u8]) -> SkipTurn
+fn refill(source: &Source, card: Card, pass: usize, last: bool, window: &mut [u8]) -> Turn<Skip>
     requires { Sound card (length window.old) }
     ensures { Moves window.old card pass last result window.new }
 {
-    let place = number::lesser(pass, card.held);
-    let turn = wait(source, card, place, Refusal::CutShort, window);
-    match turn {
-        Turn::On(next) => SkipTurn::On(Skip {
-            card: next,
-            pass: pass - place,
-            last,
-        }),
-        Turn::Over(end) => SkipTurn::Over(end),
-    }
+    let place = pass.min(card.held);
+    let card = wait(source, card, place, Refusal::CutShort, window)?;
+    ControlFlow::Continue(Skip {
+        card,
+        pass: pass - place,
+        last,
+    })
 }
 
 // The frames start at a place of the window: it becomes the window's first.
-fn to_frames(card: Card, pass: usize, window: &mut [u8]) -> SkipTurn
+fn to_frames(card: Card, pass: usize, window: &mut [u8]) -> Turn<Card>
     requires { Sound card (length window.old) × (pass ≤ card.held) }
     ensures { Arrives window.old card pass result window.new }
 {
     let base = card.base + pass as u64;
     if u64::MAX - base < window.len() as u64 {
-        return SkipTurn::Over(Last {
-            card,
-            place: pass,
-            how: How::TooFar,
-        });
+        return card.over(pass, How::TooFar);
     }
-    let held = card.held;
-    let rest = card.rest;
-    let totals = card.totals;
-    window::shift(window, pass, held);
-    SkipTurn::Frames(Card {
+    window::shift(window, pass, card.held);
+    ControlFlow::Continue(Card {
         base,
-        held: held - pass,
-        rest,
-        totals,
+        held: card.held - pass,
+        ..card
     })
 }
 
 // The place of the next block, or of the first frame, is in the window or not.
-fn pass_on(source: &Source, card: Card, pass: usize, last: bool, window: &mut [u8]) -> SkipTurn
+fn pass_on(source: &Source, card: Card, pass: usize, last: bool, window: &mut [u8]) -> Turn<Passed>
     requires { Sound card (length window.old) }
     ensures { Passes window.old card pass last result window.new }
 {
-    if !last {
-        return refill(source, card, pass, last, window);
-    }
-    if card.held < pass {
-        return refill(source, card, pass, last, window);
-    }
-    to_frames(card, pass, window)
+    ControlFlow::Continue(if last && pass <= card.held {
+        Passed::Frames(to_frames(card, pass, window)?)
+    } else {
+        Passed::On(refill(source, card, pass, last, window)?)
+    })
 }
 
 // Passes the blocks whose heads are in the window, and refills it for those that follow.
-fn skip_turn(source: &Source, skip: Skip, window: &mut [u8]) -> SkipTurn
+fn skip_turn(source: &Source, skip: Skip, window: &mut [u8]) -> Turn<Passed>
     requires { Sound skip.card (length window.old) }
     ensures { SkipTurns window.old skip result window.new }
 {
     let card = skip.card;
-    let held = card.held;
-    let to = pass_heads(&window[..held], skip.pass, skip.last);
-    match to {
-        Hop::At(pass, last) => pass_on(source, card, pass, last, window),
-        Hop::Refused(e) => SkipTurn::Over(Last {
-            card,
-            place: 0,
-            how: How::Refused(e),
-        }),
+    match pass_heads(&window[..card.held], skip.pass, skip.last) {
+        Ok((pass, last)) => pass_on(source, card, pass, last, window),
+        Err(e) => card.over(0, How::Refused(e)),
     }
 }
 
 // Passes the metadata blocks to where the frames start.
-fn skip_blocks(source: &Source, start: Skip, window: &mut [u8]) -> SkipEnd
+fn skip_blocks(source: &Source, start: Skip, window: &mut [u8]) -> Turn<Card>
     requires { Sound start.card (length window.old) × (start.card.base ≡ 0) × (0 < start.pass) }
     ensures { Skips (take start.card.held window.old) start result window.new }
 {
     let mut skip = start;
     loop {
-        let turn = skip_turn(source, skip, window);
-        match turn {
-            SkipTurn::On(next) => skip = next,
-            SkipTurn::Frames(card) => return SkipEnd::Frames(card),
-            SkipTurn::Over(last) => return SkipEnd::Over(last),
+        match skip_turn(source, skip, window)? {
+            Passed::On(next) => skip = next,
+            Passed::Frames(card) => return ControlFlow::Continue(card),
         }
-    }
-}
-
-// Whether nothing more can be read.
-fn is_over(rest: Rest) -> bool
-    ensures { result ≡ eqb (pending rest) 0 }
-{
-    match rest {
-        Rest::More => false,
-        Rest::Ended => true,
-        Rest::Failed(_) => true,
     }
 }
 
 // The first bytes are too few for the mark and STREAMINFO. Fewer than four are no mark, so a card that ends there is
 // left to the reader of frames.
-fn short_start(source: &Source, card: Card, window: &mut [u8]) -> StartTurn
+fn short_start(source: &Source, card: Card, window: &mut [u8]) -> Turn<Look>
     requires { Sound card (length window.old) }
     ensures { Waits window.old card result window.new }
 {
-    let rest = card.rest;
-    if is_over(rest) {
-        if card.held < 4 {
-            return StartTurn::Bare(card);
-        }
+    if card.rest != Rest::More && card.held < 4 {
+        return ControlFlow::Continue(Look::At(Start::Bare(card)));
     }
-    let turn = wait(source, card, 0, Refusal::CutShort, window);
-    match turn {
-        Turn::On(next) => StartTurn::On(next),
-        Turn::Over(last) => StartTurn::Over(last),
-    }
+    let card = wait(source, card, 0, Refusal::CutShort, window)?;
+    ControlFlow::Continue(Look::On(card))
 }
 
 // The first bytes are no mark, or what follows it is no STREAMINFO, or they are too few.
-fn no_start(source: &Source, card: Card, e: Refusal, window: &mut [u8]) -> StartTurn
+fn no_start(source: &Source, card: Card, e: Refusal, window: &mut [u8]) -> Turn<Look>
     requires { Sound card (length window.old) }
     ensures { Unstarted window.old card e result window.new }
 {
-    let number = error::number_of(e);
-    if number == 2 {
-        return short_start(source, card, window);
+    match e {
+        Refusal::CutShort => short_start(source, card, window),
+        Refusal::NotSync => ControlFlow::Continue(Look::At(Start::Bare(card))),
+        _ => card.over(0, How::Refused(e)),
     }
-    if number == 3 {
-        return StartTurn::Bare(card);
-    }
-    StartTurn::Over(Last {
-        card,
-        place: 0,
-        how: How::Refused(e),
-    })
 }
 
 // Looks at the card's first bytes.
-fn start_turn(source: &Source, card: Card, window: &mut [u8]) -> StartTurn
+fn start_turn(source: &Source, card: Card, window: &mut [u8]) -> Turn<Look>
     requires { Sound card (length window.old) }
     ensures { StartTurns window.old card result window.new }
 {
-    let held = card.held;
-    let start = stream::read_stream_start(&window[..held]);
-    match start {
-        StartRead::Start(last, info, pass) => StartTurn::Header(info, Skip { card, pass, last }),
-        StartRead::Refused(e) => no_start(source, card, e, window),
+    match stream::read_stream_start(&window[..card.held]) {
+        Ok((last, info, pass)) => {
+            let skip = Skip { card, pass, last };
+            ControlFlow::Continue(Look::At(Start::Header(info, skip)))
+        }
+        Err(e) => no_start(source, card, e, window),
     }
 }
 
 // The mark and STREAMINFO, if the card starts with a mark.
-fn read_start(source: &Source, window: &mut [u8]) -> Started
+fn read_start(source: &Source, window: &mut [u8]) -> Turn<Start>
     requires { length window.old < 2 ^ 64 }
     ensures { Starts window.new result }
 {
@@ -255,22 +189,12 @@ fn read_start(source: &Source, window: &mut [u8]) -> Started
         base: 0,
         held: 0,
         rest: Rest::More,
-        totals: Totals {
-            frames: 0,
-            samples: 0,
-            length: 0,
-            rate: SampleRate::Unknown,
-            block: StreamBlock::Unknown,
-            stream: StreamRecord::Unknown,
-        },
+        totals: Totals::default(),
     };
     loop {
-        let turn = start_turn(source, card, window);
-        match turn {
-            StartTurn::On(next) => card = next,
-            StartTurn::Bare(bare) => return Started::Bare(bare),
-            StartTurn::Header(info, skip) => return Started::Header(info, skip),
-            StartTurn::Over(last) => return Started::Over(last),
+        match start_turn(source, card, window)? {
+            Look::On(next) => card = next,
+            Look::At(start) => return ControlFlow::Continue(start),
         }
     }
 }
@@ -279,53 +203,30 @@ fn read_start(source: &Source, window: &mut [u8]) -> Started
 fn totals_of(info: StreamInfo) -> Totals
     ensures { result ≡ told info }
 {
+    let StreamInfo { bits, rate, .. } = info;
     Totals {
-        frames: 0,
-        samples: 0,
-        length: 0,
-        rate: known_rate(info.rate),
-        block: StreamBlock::Unknown,
-        stream: StreamRecord::Known(info.bits, info.rate),
-    }
-}
-
-fn known_rate(rate: u32) -> SampleRate
-    ensures { result ≡ known_rate rate }
-{
-    if rate == 0 {
-        return SampleRate::Unknown;
-    }
-    SampleRate::Known(rate)
-}
-
-// The card where the frames start, with what the stream header tells of them.
-fn told_card(info: StreamInfo, card: Card) -> Card
-    ensures { result ≡ told_card info card }
-{
-    let rest = card.rest;
-    Card {
-        base: card.base,
-        held: card.held,
-        rest,
-        totals: totals_of(info),
+        rate: (rate != 0).then_some(rate),
+        stream: Some(StreamRecord { bits, rate }),
+        ..Totals::default()
     }
 }
 
 // Reads the card up to where its frames start.
-pub fn read_opening(source: &Source, window: &mut [u8]) -> Opening
+pub fn read_opening(source: &Source, window: &mut [u8]) -> Turn<Opening>
     requires { length window.old < 2 ^ 64 }
     ensures { Opens window.new result }
 {
-    let started = read_start(source, window);
-    match started {
-        Started::Bare(card) => Opening::Bare(card),
-        Started::Header(info, skip) => {
-            let skipped = skip_blocks(source, skip, window);
-            match skipped {
-                SkipEnd::Frames(card) => Opening::Stream(info, told_card(info, card)),
-                SkipEnd::Over(last) => Opening::Over(last),
-            }
+    match read_start(source, window)? {
+        Start::Bare(card) => ControlFlow::Continue(Opening { header: None, card }),
+        Start::Header(info, skip) => {
+            let card = skip_blocks(source, skip, window)?;
+            ControlFlow::Continue(Opening {
+                header: Some(info),
+                card: Card {
+                    totals: totals_of(info),
+                    ..card
+                },
+            })
         }
-        Started::Over(last) => Opening::Over(last),
     }
 }

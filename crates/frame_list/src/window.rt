@@ -1,28 +1,15 @@
 // The window on the card: bytes that are still needed move to its front, and more of the card is read in after them.
-ghost use Rattle.std.specs.Prelude.{◌-◌, ◌≤◌, ◌<◌, ◌≡◌, length, take, drop};
+ghost use Rattle.std.specs.Prelude.{◌+◌, ◌-◌, ◌≤◌, ◌<◌, ◌≡◌, IfOk, length, take, drop};
 ghost use Rattle.std.specs.Io.{ReadsAtMost};
-ghost use Rattle.frame_list.specs.Window.{ReadAfter, Fills};
+ghost use Rattle.frame_list.specs.Window.{Fills};
 
 use crate::Source;
 use std::io;
 use std::io::Read;
 
-// The system's error number of a call that a signal interrupted.
-const EINTR: i32 = 4;
-
-// What one system read did: it read that many bytes, found the end of the card, was interrupted, or failed with the
-// system's error number.
-#[derive(Clone, Copy)]
-pub enum SystemRead {
-    Bytes(usize),
-    Ended,
-    Interrupted,
-    Failed(i32),
-}
-
 // What follows the bytes that the window holds: perhaps more; the end of the card; or a failed read, with the system's
 // error number.
-#[derive(Clone, Copy)]
+#[derive(Clone, Copy, Debug, PartialEq, Eq)]
 pub enum Rest {
     More,
     Ended,
@@ -30,7 +17,7 @@ pub enum Rest {
 }
 
 // How many bytes the window holds, and what follows them.
-#[derive(Clone, Copy)]
+#[derive(Clone, Copy, Debug, PartialEq, Eq)]
 pub struct Filled {
     pub held: usize,
     pub rest: Rest,
@@ -44,23 +31,12 @@ pub fn shift(window: &mut [u8], used: usize, held: usize)
     requires { (used ≤ held) × (held ≤ length window.old) }
     ensures { take (held - used) window.new ≡ take (held - used) (drop used window.old) }
 {
-    if used == 0 {
-        return;
-    }
-    let rest = held - used;
-    let mut i = 0;
-    while i < rest {
-        window[i] = window[used + i];
-        i += 1;
-    }
+    window.copy_within(used..held, 0);
 }
 
 // The system's error number, or 0 if the error has none.
 pub fn number_in(error: io::Error) -> i32 {
-    match error.raw_os_error() {
-        Some(number) => number,
-        None => 0,
-    }
+    error.raw_os_error().unwrap_or(0)
 }
 
 // One read of the system's.
@@ -80,26 +56,12 @@ fn read_some(source: &Source, buffer: &mut [u8]) -> io::Result<usize>
 }
 
 // One read, into the window after the bytes it holds. Those stay as they are.
-fn read_once(source: &Source, window: &mut [u8], held: usize) -> SystemRead
+fn read_once(source: &Source, window: &mut [u8], held: usize) -> io::Result<usize>
     requires { held < length window.old }
-    ensures { ReadAfter window.old held result window.new }
+    ensures kept { take held window.new ≡ take held window.old }
+    ensures fits { IfOk result (λ n. held + n ≤ length window.old) }
 {
-    let got = read_some(source, &mut window[held..]);
-    match got {
-        Ok(n) => {
-            if n == 0 {
-                return SystemRead::Ended;
-            }
-            SystemRead::Bytes(n)
-        }
-        Err(e) => {
-            let error = number_in(e);
-            if error == EINTR {
-                return SystemRead::Interrupted;
-            }
-            SystemRead::Failed(error)
-        }
-    }
+    read_some(source, &mut window[held..])
 }
 
 // Reads on after the bytes that are held, which stay as they are, until `wanted` bytes are held or there are no more.
@@ -110,28 +72,19 @@ pub fn fill_to(source: &Source, window: &mut [u8], before: usize, wanted: usize)
     let mut held = before;
     let mut tries = TRIES;
     while held < wanted {
-        let got = read_once(source, window, held);
-        match got {
-            SystemRead::Bytes(n) => held += n,
-            SystemRead::Ended => {
+        match read_once(source, window, held) {
+            Ok(0) => {
                 return Filled {
                     held,
                     rest: Rest::Ended,
                 };
             }
-            SystemRead::Interrupted => {
-                if tries == 0 {
-                    return Filled {
-                        held,
-                        rest: Rest::Failed(EINTR),
-                    };
-                }
-                tries -= 1;
-            }
-            SystemRead::Failed(error) => {
+            Ok(n) => held += n,
+            Err(e) if e.kind() == io::ErrorKind::Interrupted && tries > 0 => tries -= 1,
+            Err(e) => {
                 return Filled {
                     held,
-                    rest: Rest::Failed(error),
+                    rest: Rest::Failed(number_in(e)),
                 };
             }
         }

@@ -6,7 +6,7 @@ use Rattle.frame_list.proofs.MetadataBlocks.{Hopping}
 use Rattle.frame_list.proofs.opening.pass_heads.Given as goal
 
 abbrev pub invariant-loop-last : goal.invariant-loop-last
-invariant-loop-last l = Hopping l.bytes l.start l.done l.pass
+invariant-loop-last l = Hopping l.bytes l.initial.pass l.initial.last l.pass l.last
 
 abbrev pub decreases-loop-last : goal.decreases-loop-last
 decreases-loop-last l = length l.bytes - l.pass
