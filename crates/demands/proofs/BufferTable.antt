@@ -73,12 +73,11 @@ module _ (given : Settings) (s : List ℕ) (b : List ℤ) where
       go g p (got_at xs q) e f =
           absurd
           (let d = sym (bind_got_lem (body g) s p _ e ∙ run_at-done _ (stays_in (body g) s p e)) ∙ f in
-          let z : ◌≡◌ {A = ℕ} 0 1 = cc in
-          omega arith)
+          cc)
       go g p (refused_at m) e f =
           let same : m ≡ n = (let d = sym (bind_refused (body g) s p _ e) ∙ f in cc) in
           subst Late same (subst (Meets Late (Sized (sample_count g) Sample)) e (holds_at Late (Sized (sample_count g) Sample) s p (body_holds g)))
-      go g p short_at e f = absurd (let d = sym (bind_short (body g) s p _ e) ∙ f in let z : ◌≡◌ {A = ℕ} 0 1 = cc in omega arith)
+      go g p short_at e f = absurd (let d = sym (bind_short (body g) s p _ e) ∙ f in cc)
 
   -- ---- facts that give the rows
 
@@ -135,7 +134,7 @@ module _ (given : Settings) (s : List ℕ) (b : List ℤ) where
       go : (number ≡ 0) ⊎ ((number ≡ 2) ⊎ Late number) → ⊥
       go (inl z) = some (sym e ∙ z)
       go (inr (inl z)) = cut (sym e ∙ z)
-      go (inr (inr l)) = let y : late n ≡ true = late-true (subst Late e l) in let z : ◌≡◌ {A = ℕ} 0 1 = cc in omega arith
+      go (inr (inr l)) = let y : late n ≡ true = late-true (subst Late e l) in cc
 
   keeps : {n : ℕ} → number ≡ n → n ≢ 0 → n ≢ 2 → late n ≡ false → (read given s b).buffer ≡ b
   keeps e some cut early = unbegun-keeps (not_begun e some cut early)

@@ -28,16 +28,16 @@ use Rattle.demands.proofs.ResultCases as cases
 pub accept-zero : (n : ℕ) → verdict_of n ≡ accept → n ≡ 0
 unfolding verdict_of
 accept-zero zero e = refl
-accept-zero (suc zero) e = absurd (let z : ◌≡◌ {A = ℕ} 0 1 = cc in omega arith)
-accept-zero (suc (suc zero)) e = absurd (let z : ◌≡◌ {A = ℕ} 0 1 = cc in omega arith)
-accept-zero (suc (suc (suc n))) e = absurd (let z : ◌≡◌ {A = ℕ} 0 1 = cc in omega arith)
+accept-zero (suc zero) e = cc
+accept-zero (suc (suc zero)) e = cc
+accept-zero (suc (suc (suc n))) e = cc
 
 pub undecided-two : (n : ℕ) → verdict_of n ≡ undecided → (1 ≤ n) × (n ≤ 2)
 unfolding verdict_of
-undecided-two zero e = absurd (let z : ◌≡◌ {A = ℕ} 0 1 = cc in omega arith)
+undecided-two zero e = cc
 undecided-two (suc zero) e = (omega arith, omega arith)
 undecided-two (suc (suc zero)) e = (omega arith, omega arith)
-undecided-two (suc (suc (suc n))) e = absurd (let z : ◌≡◌ {A = ℕ} 0 1 = cc in omega arith)
+undecided-two (suc (suc (suc n))) e = cc
 
 -- equal numbers have the same verdict
 pub verdict_is : {n m : ℕ} {k : Verdict} → n ≡ m → verdict_of m ≡ k → verdict_of n ≡ k
@@ -153,12 +153,10 @@ module _ (set : ReaderSettings) where
       go : (b : Bool) → possible set.given ≡ b → ⊥
       go true ok =
           let f = sym (bind_short (opening set) [] (place_of 0) _ (cases.opening-short set [] ok no_header)) ∙ e in
-          let z : ◌≡◌ {A = ℕ} 0 1 = cc in
-          omega arith
+          cc
       go false bad =
           let f = sym (bind_refused (opening set) [] (place_of 0) _ (cases.not_opened set [] bad)) ∙ e in
-          let z : ◌≡◌ {A = ℕ} 0 1 = cc in
-          omega arith
+          cc
 
   -- cut short is 1 for an empty input, else 2
   pub cut : (s : List ℕ) → 1 ≤ (result set s).report.number → (result set s).report.number ≤ 2 → (result set s).report.number ≡ cut_short s

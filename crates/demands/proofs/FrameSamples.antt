@@ -36,8 +36,8 @@ abbrev pub Sample : ℤ → Type 0
 Sample z = Fits 32 z
 
 -- nothing is said about a value
-abbrev Some : {A : Type 0} → A → Type 0
-Some a = Unit {0}
+abbrev Anything : {A : Type 0} → A → Type 0
+Anything a = Unit {0}
 
 -- this many, and nothing is said about each
 abbrev Count : {A : Type 0} → ℕ → List A → Type 0
@@ -45,22 +45,22 @@ Count n xs = length xs ≡ n
 
 -- ---- the residual
 
-signed_bits_holds : (w : ℕ) → Holds Late Some (signed_bits w)
+signed_bits_holds : (w : ℕ) → Holds Late Anything (signed_bits w)
 unfolding signed_bits
 signed_bits_holds w = holds_bind _ (holds_bits w) (λ v _. value tt)
 
-many-count : {A : Type 0} (n : ℕ) {p : Ask A} → Holds Late Some p → Holds Late (Count n) (many n p)
+many-count : {A : Type 0} (n : ℕ) {p : Ask A} → Holds Late Anything p → Holds Late (Count n) (many n p)
 many-count n h = holds_weaken (λ xs s. s.count) (holds_many n h)
 
-rice_holds : (k : ℕ) → Holds Late Some (rice k)
+rice_holds : (k : ℕ) → Holds Late Anything (rice k)
 unfolding rice
 rice_holds k = holds_bind _ holds_zeros (λ q _. holds_bind _ (holds_bits k) (λ r _. value tt))
 
-escaped_holds : (n : ℕ) → Holds Late (Sized n Some) (escaped n)
+escaped_holds : (n : ℕ) → Holds Late (Sized n Anything) (escaped n)
 unfolding escaped
 escaped_holds n = holds_bind _ (holds_bits 5) (λ w _. holds_many n (signed_bits_holds w))
 
-partition_holds : (method n : ℕ) → Holds Late (Sized n Some) (partition method n)
+partition_holds : (method n : ℕ) → Holds Late (Sized n Anything) (partition method n)
 unfolding partition coded_residuals
 partition_holds method n =
     holds_bind _ (holds_bits (4 + method))
@@ -94,7 +94,7 @@ residual_holds warm n =
     (λ order _. holds_bind _ (holds_require (eqb (n % 2 ^ order) 0) 9 bad_shape)
     (λ _ e. holds_bind _ (holds_require (leb warm (n / 2 ^ order)) 9 bad_shape)
     (λ _ h. holds_weaken (λ xs s. s.count ∙ sizes order n warm (eqb-true (n % 2 ^ order) 0 e) (leb-true warm (n / 2 ^ order) h))
-    (holds_each {P = Some} (partition method) (λ x. x) (partition_sizes order (n / 2 ^ order) warm) (every_of (partition_holds method) (partition_sizes order (n / 2 ^ order) warm))))))))
+    (holds_each {P = Anything} (partition method) (λ x. x) (partition_sizes order (n / 2 ^ order) warm) (every_of (partition_holds method) (partition_sizes order (n / 2 ^ order) warm))))))))
 
 -- ---- the subframe
 
@@ -114,7 +114,7 @@ fixed_holds order w n h =
     holds_bind _ (many-count order (signed_bits_holds w))
     (λ warm e. holds_bind _ (residual_holds order n) (λ rs f. value (predict-length _ 0 order n warm rs e f h)))
 
-quantization_holds : Holds Late Some quantization
+quantization_holds : Holds Late Anything quantization
 unfolding quantization
 quantization_holds =
     holds_bind _ (holds_bits 4)
@@ -136,7 +136,7 @@ samples_by_type_holds Verbatim w n h = many-count n (signed_bits_holds w)
 samples_by_type_holds (Fixed k) w n h = fixed_holds k w n h
 samples_by_type_holds (Lpc k) w n h = lpc_holds k w n h
 
-type_holds : (code : ℕ) → Holds Late Some (subframe_type code)
+type_holds : (code : ℕ) → Holds Late Anything (subframe_type code)
 unfolding subframe_type
 type_holds code =
     holds_if (eqb code 0) (λ _. value tt)
@@ -145,18 +145,18 @@ type_holds code =
     (λ _. holds_if (leb code 12) (λ _. value tt)
     (λ _. holds_if (ltb code 32) (λ _. refusal forbidden) (λ _. value tt)))))
 
-wasted_holds : Holds Late Some wasted_bits
+wasted_holds : Holds Late Anything wasted_bits
 unfolding wasted_bits
 wasted_holds = holds_bind _ (holds_bits 1) (λ flag _. holds_if (eqb flag 0) (λ _. value tt) (λ _. holds_bind _ holds_zeros (λ z _. value tt)))
 
-subframe_header_holds : (width : ℕ) → Holds Late Some (subframe_header width)
+subframe_header_holds : (width : ℕ) → Holds Late Anything (subframe_header width)
 unfolding subframe_header kind_and_wasted checked_wasted_bits
 subframe_header_holds width =
     holds_bind _ (holds_bits 1)
     (λ reserved _. holds_bind _ (holds_require _ 4 forbidden)
     (λ _ _. holds_bind _ (holds_bits 6)
     (λ code _. holds_bind _ (type_holds code)
-    (λ kind _. holds_bind _ (holds_bind {P = Some} _ wasted_holds (λ wasted _. holds_bind _ (holds_require _ 9 bad_shape) (λ _ _. value tt)))
+    (λ kind _. holds_bind _ (holds_bind {P = Anything} _ wasted_holds (λ wasted _. holds_bind _ (holds_require _ 9 bad_shape) (λ _ _. value tt)))
     (λ wasted _. value tt)))))
 
 -- every sample is cut to 32 bits
@@ -235,7 +235,7 @@ left_and_right-sized c n xs h = go c h
 
 -- ---- the frame
 
-footer_holds : Holds Late Some footer
+footer_holds : Holds Late Anything footer
 unfolding footer
 footer_holds =
     holds_bind _ holds_passed

@@ -23,10 +23,10 @@ use Rattle.demands.proofs.FrameRuns.{frame-begun, opening-more}
 use Rattle.demands.proofs.FrameSamples.{HeaderInRoom, FrameInRoom, opening_holds, begun_holds, frame_holds}
 
 got-short : {A : Type 0} (a : A) (p : Place) → got_at a p ≡ short_at → ⊥
-got-short a p e = let z : ◌≡◌ {A = ℕ} 0 1 = cc in omega arith
+got-short a p e = cc
 
 refused-short : {A : Type 0} (n : ℕ) → ◌≡◌ {A = At A} (refused_at n) short_at → ⊥
-refused-short n e = let z : ◌≡◌ {A = ℕ} 0 1 = cc in omega arith
+refused-short n e = cc
 
 -- `cut_short` is 1 or 2
 pub cut-number : (s : List ℕ) → (cut_short s ≡ 0 → ⊥) × (cut_short s ≤ 2)

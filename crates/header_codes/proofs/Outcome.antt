@@ -1,6 +1,5 @@
 -- Any two outcomes that meet a public function's contract are equal. Assumes nothing.
 use Prim.Native.Nat.{ℕ}
-use native.Mathlib.Omega.{arith}
 use mathlib.Core.Path.{◌≡◌, refl, sym, ap, ◌∙◌}
 use mathlib.Core.Bool.{cond}
 use lib.Dec.{eqb}
@@ -8,7 +7,6 @@ use Rattle.reading.specs.Readers.{Ask, done, stop, ask, seen, next_bits, next_ze
 use Rattle.reading.proofs.Outcome.{OneOutcome, one_value}
 use Rattle.std.specs.Prelude.{Result, Ok, Err}
 use Rattle.error.specs.declared.Refusal.{Refusal}
-use Rattle.error.specs.Numbers.{number_of}
 use Rattle.error.proofs.Outcome.{number-tells}
 use Rattle.header_codes.specs.declared.BlockSize.{BlockSize}
 use Rattle.header_codes.specs.declared.BlockSize.TheVariants.{Samples, InByte, InTwoBytes}
@@ -63,10 +61,10 @@ pub channel_count-one : OneOutcome channel_count.ended channel_count_reads.Learn
 channel_count-one κs args r r' left left' p q = (one_value p q, refl)
 
 depth-one : (r r' : Result ℕ Refusal) → depth_ask r ≡ depth_ask r' → r ≡ r'
-depth-one (Ok n) (Ok n') e = let a : n ≡ n' = cc in cc
-depth-one (Ok n) (Err x) e = absurd (let z : ◌≡◌ {A = ℕ} 0 1 = cc in omega arith)
-depth-one (Err x) (Ok n) e = absurd (let z : ◌≡◌ {A = ℕ} 0 1 = cc in omega arith)
-depth-one (Err x) (Err y) e = ap Err (number-tells x y (let a : number_of x ≡ number_of y = cc in a))
+depth-one (Ok n) (Ok n') e = cc
+depth-one (Ok n) (Err x) e = cc
+depth-one (Err x) (Ok n) e = cc
+depth-one (Err x) (Err y) e = ap Err (number-tells x y (cc))
 
 pub bit_depth-one : OneOutcome bit_depth.ended bit_depth_reads.Learnt
 bit_depth-one κs args r r' left left' p q = (depth-one r r' (one_value p q), refl)

@@ -131,7 +131,7 @@ final_stays {given} {s} {b} {r} {left} o final t more {r'} p =
     )
   where
     apart : Final ≡ Wait → ⊥
-    apart e = let z : ◌≡◌ {A = ℕ} 0 1 = cc in omega arith
+    apart e = cc
 
     roomless : Final ≡ Room → ⊥
-    roomless e = let z : ◌≡◌ {A = ℕ} 0 1 = cc in omega arith
+    roomless e = cc

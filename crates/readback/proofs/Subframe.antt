@@ -59,8 +59,8 @@ map-shift_up-none (x ∷ xs) h = ap₂ (λ y ys. y ∷ ys) (shift_up-none x h.0)
 equal_samples_is : (x y : ℤ) → equal_samples x y ≡ true → x ≡ y
 unfolding equal_samples
 equal_samples_is (pos a) (pos b) e = ap pos (eqb-true a b e)
-equal_samples_is (pos a) (negsuc b) e = absurd (let z : ◌≡◌ {A = ℕ} 0 1 = cc in omega arith)
-equal_samples_is (negsuc a) (pos b) e = absurd (let z : ◌≡◌ {A = ℕ} 0 1 = cc in omega arith)
+equal_samples_is (pos a) (negsuc b) e = cc
+equal_samples_is (negsuc a) (pos b) e = cc
 equal_samples_is (negsuc a) (negsuc b) e = ap negsuc (eqb-true a b e)
 
 replicate-uniform : (x : ℤ) (xs : List ℤ) → uniform (x ∷ xs) ≡ true → replicate (length xs) x ≡ xs
