@@ -1,6 +1,5 @@
 -- A number by its sign: its magnitude, its folded form and its bits. Assumes nothing.
-use Prim.Native.Nat.{ℕ, suc, ◌+◌, ◌-◌, ◌*◌, ◌%◌, ◌^◌, ◌<◌}
-use native.Mathlib.Nat.{mod-eq_of_lt}
+use Prim.Native.Nat.{ℕ, suc, ◌+◌, ◌*◌, ◌^◌, ◌<◌}
 use native.Mathlib.Omega.{arith}
 use mathlib.Core.Path.{◌≡◌, refl, ap, sym, ◌∙◌}
 use mathlib.Core.Bool.{true, false, true≢false}
@@ -11,7 +10,6 @@ use lib.Signed.{mag, le_z, non_neg}
 use mir.Syntax.{w64}
 use mir.Val.{Fits, SFits, to_z, of_z}
 use mir.Facts.{to_z-of_z}
-use Rattle.rfc9639.specs.Integers.{low}
 use Rattle.rfc9639.specs.SubframeCoding.{fold}
 
 nonnegative_is_pos : (z : ℤ) → le_z (pos 0) z ≡ true → z ≡ pos (mag z)
@@ -53,10 +51,6 @@ module _ {z : ℤ} (f : SFits w64 z) where
       unfolding fold
       fold-pos = ap (λ n. n * 2) (magnitude_is d) ∙ ap fold (sym is_pos ∙ to_z-of_z f)
 
-      pub low-pos : m ≡ low 64 z
-      unfolding low
-      low-pos = magnitude_is d ∙ sym (mod-eq_of_lt {n = mag z} {m = 2 ^ 64} (omega (arith, f.sfits))) ∙ ap (low 64) (sym is_pos ∙ to_z-of_z f)
-
   module _ (e : le_z (pos 0) (bits64 z) ≡ false) where
     is_negsuc : bits64 z ≡ negsuc (mag z)
     is_negsuc = to_z-of_z f ∙ negative_is_negsuc z (rw (to_z-of_z f) at e)
@@ -80,9 +74,3 @@ module _ {z : ℤ} (f : SFits w64 z) where
       pub fold-negsuc : m * 2 + 1 ≡ fold z
       unfolding fold
       fold-negsuc = ap (λ n. n * 2 + 1) (magnitude_is d) ∙ ap fold (sym is_negsuc ∙ to_z-of_z f)
-
-      pub low-negsuc : 2 ^ 64 - 1 - m ≡ low 64 z
-      unfolding low
-      low-negsuc =
-          (let g : 2 ^ 64 - 1 - m ≡ 2 ^ 64 - suc (mag z % 2 ^ 64) = omega (arith, magnitude_is d, mod-eq_of_lt {n = mag z} {m = 2 ^ 64} (omega (arith, f.sfits))) in g)
-          ∙ ap (low 64) (sym is_negsuc ∙ to_z-of_z f)

@@ -13,9 +13,9 @@ use mir.Val.{SFits, to_z, of_z}
 use mir.Facts.{to_z-of_z}
 use Rattle.reading.proofs.Bits.{one_shifted}
 use Rattle.rfc9639.specs.Integers.{signed, low, wrapped, shift_down}
-use Rattle.rfc9639.proofs.Widths.{low-low}
+use Rattle.rfc9639.proofs.Widths.{low-low, low_of_congruent}
 use Rattle.signed.specs.Extend.{sign_extend, low_bits}
-use Rattle.rfc9639.proofs.MachineIntegers.{up_and_down}
+use Rattle.rfc9639.proofs.MachineIntegers.{up_and_down, of_z_congruent}
 
 module _ (w v : ℕ) where
   pub extend-low : w ≤ 63 → sign_extend w v ≡ signed w (v % 2 ^ w)
@@ -57,9 +57,9 @@ low_bits-low w z h = go (leb w 63) refl
 
 -- as the function computes them, from all 64 bits. The machine passes a signed value as its bits.
 
-module _ (w : ℕ) {z : ℤ} (f : SFits w64 z) {r : ℕ} (e : r ≡ low 64 (to_z w64 (of_z w64 z))) where
+module _ (w : ℕ) {z : ℤ} (f : SFits w64 z) {r : ℕ} (e : r ≡ of_z w64 (to_z w64 (of_z w64 z))) (l : r < 2 ^ 64) where
   all_bits-low : r ≡ low 64 z
-  all_bits-low = e ∙ ap (low 64) (to_z-of_z f)
+  all_bits-low = sym (mod-eq_of_lt l) ∙ ap (λ n. n % 2 ^ 64) (e ∙ ap (of_z w64) (to_z-of_z f)) ∙ low_of_congruent 64 (of_z_congruent f)
 
   pub low_bits-from_64 : 64 ≤ w → r ≡ low_bits w z
   unfolding low_bits

@@ -1,21 +1,22 @@
--- `wrapping_sub` meets its contract: the difference is exact before it is cut to 32 bits. Assumes nothing.
-use mathlib.Core.Path.{ap, ◌∙◌}
+-- `wrapping_sub` meets its contract: to subtract is to add the opposite. Assumes nothing.
+use Prim.Native.Nat.{zero, suc, ◌-◌, ◌^◌}
+use native.Mathlib.Omega.{arith}
+use mathlib.Core.Path.{refl, ap, ◌∙◌}
+use lib.IntN.{ℤ, pos, negsuc, neg_ℤ}
 use mir.Syntax.{w32}
-use mir.Facts.{to_z-of_z}
-use Rattle.rfc9639.specs.Integers.{wrapped}
-use Rattle.rfc9639.proofs.MachineIntegers.{widen_fits}
-use Rattle.number.proofs.ExactSums.{difference_fits_64, difference_exact}
+use mir.Val.{SFits, of_z}
+use Rattle.rfc9639.specs.Integers.{signed, wrapped}
+use Rattle.rfc9639.proofs.Widths.{Congruent, low_of_congruent, congruent_add}
+use Rattle.rfc9639.proofs.MachineIntegers.{to_z-signed, of_z_congruent}
 use Rattle.number.proofs.wrapping_sub.Goals as goal
 
-pub overflow_cast-a : goal.overflow_cast-a
-overflow_cast-a c = widen_fits c.ranges.a
-
-pub overflow_cast-b : goal.overflow_cast-b
-overflow_cast-b c = widen_fits c.ranges.b
-
-pub overflow_sub-a : goal.overflow_sub-a
-overflow_sub-a c = difference_fits_64 c.ranges.a c.ranges.b
+opposite : (z : ℤ) → SFits w32 z → Congruent 32 (neg_ℤ z) (2 ^ 32 - of_z w32 z)
+opposite (pos zero) f = record { modulo = refl }
+opposite (pos (suc n)) f = record { modulo = let h = f.sfits in omega arith }
+opposite (negsuc n) f = record { modulo = let h = f.sfits in omega arith }
 
 pub returns : goal.returns
+unfolding wrapped
 returns c =
-    to_z-of_z {w = w32} (record { sfits = c.low32.type_inv }) ∙ c.low32.ensures ∙ ap (wrapped 32) (difference_exact c.ranges.a c.ranges.b)
+    to_z-signed w32 _
+    ∙ ap (signed 32) (low_of_congruent 32 (congruent_add 32 (of_z_congruent c.ranges.a) (opposite c.args.b c.ranges.b)))
