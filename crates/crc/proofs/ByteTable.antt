@@ -3,14 +3,13 @@ use Prim.Native.Nat.{ℕ, zero, suc, ◌+◌, ◌*◌, ◌-◌, ◌/◌, ◌%◌
 use native.Mathlib.Nat.{zero-add, add-zero, suc-add, add-suc, div-one, mul-mod_left}
 use native.Mathlib.Omega.{arith}
 use mathlib.Core.Path.{◌≡◌, refl, ap, ap₂, sym, ◌∙◌}
-use mathlib.Core.List.{List, [], ◌∷◌, ◌++◌, map}
+use mathlib.Core.List.{List, [], ◌∷◌, map}
 use lib.Bits.{bit_xor, xor_lt, xor_self, xor_zero_r}
-use lib.ListN.{length, get_or, take, replicate, get_or-append, get_or-map}
+use lib.ListN.{length, get_or, replicate, get_or-map}
 use lib.Pow.{pow_pos, shr_lt}
-use lib.Seq.{get_or-append-add, get_or-take}
 use Rattle.reading.specs.Bytes.{bits_of_byte, bits_of_bytes}
 use Rattle.rfc9639.specs.CheckSums.{crc_bits}
-use Rattle.crc.specs.Private.{sums_from, byte_sums, EightTables}
+use Rattle.crc.specs.Private.{sums_from, byte_sums, tables_from, EightTables}
 use Rattle.crc.proofs.CrcLinearity.{crc_cons, crc_byte, byte_xor}
 
 sums_from_at : (w poly i n k : ℕ) → k < n → get_or (sums_from w poly i n) k 0 ≡ crc_bits w poly 0 (bits_of_byte (i + k))
@@ -51,52 +50,39 @@ look_up_8 poly table t r b hp hr hb =
     ∙ ap₂ (λ (x y : ℕ). bit_xor (get_or table (bit_xor x b) 0) y) (sym (div-one r)) (sym (mul-mod_left r 256))
     ∙ look_up 8 poly table (λ k h. ap (λ (l : List ℕ). get_or l k 0) t ∙ byte_sums_at 8 poly k h) r b hp (omega arith) hr hb
 
--- ---- eight tables one after the other
+-- ---- eight tables
 
--- one more zero byte at the end of some
-zero-last : (w poly r n : ℕ)
-    → crc_bits w poly r (bits_of_bytes (replicate (suc n) 0)) ≡ crc_bits w poly (crc_bits w poly r (bits_of_bytes (replicate n 0))) (bits_of_byte 0)
-unfolding crc_bits bits_of_bytes
-zero-last w poly r zero = crc_cons w poly r 0 []
-zero-last w poly r (suc n) =
-    crc_cons w poly r 0 (replicate (suc n) 0) ∙ zero-last w poly (crc_bits w poly r (bits_of_byte 0)) n
-    ∙ ap (λ (x : ℕ). crc_bits w poly x (bits_of_byte 0)) (sym (crc_cons w poly r 0 (replicate n 0)))
-
-module _ (w poly : ℕ) (hp : poly < 2 ^ w) (hw : 8 ≤ w) (t : List ℕ) (e : EightTables w poly t) where
-  -- the first table
-  pub first_at : (k : ℕ) → k < 256 → get_or t k 0 ≡ crc_bits w poly 0 (bits_of_byte k)
-  unfolding EightTables
-  first_at k h =
-      ap (λ (l : List ℕ). get_or l k 0) e
-      ∙ get_or-append (byte_sums w poly) (map (λ (r : ℕ). crc_bits w poly r (bits_of_byte 0)) (take (7 * 256) t)) 0 k
-      (rw (byte_sums-length w poly) h)
-      ∙ byte_sums_at w poly k h
-
-  pub look_up-first : (r b : ℕ) → r < 2 ^ w → b < 256
-      → bit_xor (get_or t (bit_xor (r / 2 ^ (w - 8)) b) 0) (r * 256 % 2 ^ w) ≡ crc_bits w poly r (bits_of_byte b)
-  look_up-first r b hr hb = look_up w poly t first_at r b hp hw hr hb
-
+module _ (w poly : ℕ) (hp : poly < 2 ^ w) (hw : 8 ≤ w) where
   -- zero bytes leave the sum zero
   zero_stays : crc_bits w poly 0 (bits_of_byte 0) ≡ 0
   zero_stays = byte_xor w poly 0 0 0 hp hw (pow_pos w) (pow_pos w) ∙ xor_self (crc_bits w poly 0 (bits_of_byte 0))
 
-  next_at : (k : ℕ) → k < 7 * 256 → get_or t (256 + k) 0 ≡ crc_bits w poly (get_or t k 0) (bits_of_byte 0)
-  unfolding EightTables
-  next_at k h =
+  -- an entry of table n is that of the first table after n zero bytes
+  table_at : (last n k : ℕ) (t : List ℕ) → n ≤ last
+      → get_or (get_or (tables_from w poly last t) n []) k 0 ≡ crc_bits w poly (get_or t k 0) (bits_of_bytes (replicate n 0))
+  unfolding tables_from crc_bits bits_of_bytes
+  table_at zero zero k t h = refl
+  table_at zero (suc n) k t h = absurd (omega arith)
+  table_at (suc last) zero k t h = refl
+  table_at (suc last) (suc n) k t h =
       let more : ℕ → ℕ = λ (r : ℕ). crc_bits w poly r (bits_of_byte 0) in
-      let rest : List ℕ = map more (take (7 * 256) t) in
-      ap (λ (l : List ℕ). get_or l (256 + k) 0) e ∙ ap (λ (n : ℕ). get_or (byte_sums w poly ++ rest) (n + k) 0) (sym (byte_sums-length w poly))
-      ∙ get_or-append-add (byte_sums w poly) rest k 0 ∙ ap (get_or rest k) (sym zero_stays) ∙ get_or-map more (take (7 * 256) t) k 0
-      ∙ ap more (get_or-take (7 * 256) t k 0 h)
+      table_at last n k (map more t) (omega arith)
+      ∙ ap (λ (r : ℕ). crc_bits w poly r (bits_of_bytes (replicate n 0))) (ap (get_or (map more t) k) (sym zero_stays) ∙ get_or-map more t k 0)
+      ∙ sym (crc_cons w poly (get_or t k 0) 0 (replicate n 0))
 
-  -- an entry of table n is the sum of its byte with n zero bytes after it
-  pub look_up-zeros : (n b : ℕ) → n < 8 → b < 256 → get_or t (n * 256 + b) 0 ≡ crc_bits w poly 0 (bits_of_bytes (b ∷ replicate n 0))
-  unfolding crc_bits bits_of_bytes
-  look_up-zeros zero b hn hb =
-      let place : 0 * 256 + b ≡ b = omega arith in
-      ap (λ (k : ℕ). get_or t k 0) place ∙ first_at b hb ∙ sym (crc_cons w poly 0 b [])
-  look_up-zeros (suc n) b hn hb =
-      let place : suc n * 256 + b ≡ 256 + (n * 256 + b) = omega arith in
-      ap (λ (k : ℕ). get_or t k 0) place ∙ next_at (n * 256 + b) (omega arith)
-      ∙ ap (λ (r : ℕ). crc_bits w poly r (bits_of_byte 0)) (look_up-zeros n b (omega arith) hb ∙ crc_cons w poly 0 b (replicate n 0))
-      ∙ sym (crc_cons w poly 0 b (replicate (suc n) 0) ∙ zero-last w poly (crc_bits w poly 0 (bits_of_byte b)) n)
+  module _ (t : List (List ℕ)) (e : EightTables w poly t) where
+    -- an entry of table n is the sum of its byte with n zero bytes after it
+    pub look_up-zeros : (n b : ℕ) → n < 8 → b < 256 → get_or (get_or t n []) b 0 ≡ crc_bits w poly 0 (bits_of_bytes (b ∷ replicate n 0))
+    unfolding EightTables
+    look_up-zeros n b hn hb =
+        ap (λ (l : List (List ℕ)). get_or (get_or l n []) b 0) e ∙ table_at 7 n b (byte_sums w poly) (omega arith)
+        ∙ ap (λ (r : ℕ). crc_bits w poly r (bits_of_bytes (replicate n 0))) (byte_sums_at w poly b hb) ∙ sym (crc_cons w poly 0 b (replicate n 0))
+
+    -- the first table
+    first_at : (k : ℕ) → k < 256 → get_or (get_or t 0 []) k 0 ≡ crc_bits w poly 0 (bits_of_byte k)
+    unfolding crc_bits bits_of_bytes
+    first_at k h = look_up-zeros 0 k (omega arith) h ∙ crc_cons w poly 0 k []
+
+    pub look_up-first : (r b : ℕ) → r < 2 ^ w → b < 256
+        → bit_xor (get_or (get_or t 0 []) (bit_xor (r / 2 ^ (w - 8)) b) 0) (r * 256 % 2 ^ w) ≡ crc_bits w poly r (bits_of_byte b)
+    look_up-first r b hr hb = look_up w poly (get_or t 0 []) first_at r b hp hw hr hb

@@ -1,6 +1,6 @@
 -- What the tables of a check sum hold: the sum of each byte by itself, and of each byte with zero bytes after it. Only
 -- contracts of private functions name it, so a caller need not trust it.
-use Rattle.std.specs.Prelude.{ℕ, zero, suc, ◌*◌, ◌≡◌, List, [], ◌∷◌, ◌++◌, map, take}
+use Rattle.std.specs.Prelude.{ℕ, zero, suc, ◌≡◌, List, [], ◌∷◌, map}
 use Rattle.reading.specs.Bytes.{bits_of_byte}
 use Rattle.rfc9639.specs.CheckSums.{crc_bits}
 
@@ -12,6 +12,11 @@ sums_from w poly i (suc n) = crc_bits w poly 0 (bits_of_byte i) ∷ sums_from w 
 unfoldable pub byte_sums : ℕ → ℕ → List ℕ
 byte_sums w poly = sums_from w poly 0 256
 
--- eight tables one after the other: the bytes' sums, and then each table is the one before it after one more zero byte
-unfoldable pub EightTables : ℕ → ℕ → List ℕ → Type 0
-EightTables w poly t = t ≡ byte_sums w poly ++ map (λ (r : ℕ). crc_bits w poly r (bits_of_byte 0)) (take (7 * 256) t)
+-- the table of the bytes' sums, and n more, each of which is the one before it after one more zero byte
+unfoldable pub tables_from : ℕ → ℕ → ℕ → List ℕ → List (List ℕ)
+tables_from w poly zero t = t ∷ []
+tables_from w poly (suc n) t = t ∷ tables_from w poly n (map (λ (r : ℕ). crc_bits w poly r (bits_of_byte 0)) t)
+
+-- eight tables
+unfoldable pub EightTables : ℕ → ℕ → List (List ℕ) → Type 0
+EightTables w poly t = t ≡ tables_from w poly 7 (byte_sums w poly)

@@ -25,24 +25,24 @@ fn crc8_byte(table: &[u8; 256], sum: u8, byte: u8) -> u8
 }
 
 // Adds one byte to a CRC-16, whose polynomial is x^16 + x^15 + x^2 + 1.
-fn crc16_byte(tables: &[u16; 2048], sum: u16, byte: u8) -> u16
+fn crc16_byte(tables: &[[u16; 256]; 8], sum: u16, byte: u8) -> u16
     requires { EightTables 16 0x8005 tables.now }
     ensures { result ≡ crc_bits 16 0x8005 sum (bits_of_byte byte) }
 {
     let place = (sum >> 8) ^ (byte as u16);
-    tables[place as usize] ^ (sum << 8)
+    tables[0][place as usize] ^ (sum << 8)
 }
 
 // The CRC-16 of one byte with some zero bytes after it.
-fn crc16_then_zeros(tables: &[u16; 2048], byte: u8, zeros: usize) -> u16
+fn crc16_then_zeros(tables: &[[u16; 256]; 8], byte: u8, zeros: usize) -> u16
     requires { EightTables 16 0x8005 tables.now × (zeros < 8) }
     ensures { result ≡ crc_bits 16 0x8005 0 (bits_of_bytes (byte ∷ replicate zeros 0)) }
 {
-    tables[zeros * 256 + byte as usize]
+    tables[zeros][byte as usize]
 }
 
 // The CRC-16 of six bytes of `s` by themselves. It is the XOR of each byte's own sum, with zeros for the bytes after it.
-fn crc16_six(tables: &[u16; 2048], s: &[u8], from: usize) -> u16
+fn crc16_six(tables: &[[u16; 256]; 8], s: &[u8], from: usize) -> u16
     requires { EightTables 16 0x8005 tables.now × (from + 6 ≤ length s.now) }
     ensures { result ≡ crc_bits 16 0x8005 0 (bits_of_bytes (take 6 (drop from s.now))) }
 {
@@ -55,7 +55,7 @@ fn crc16_six(tables: &[u16; 2048], s: &[u8], from: usize) -> u16
 
 // Adds eight bytes of `s` to a CRC-16. The old sum only changes the first two of them. What the other six add does not
 // depend on it: that is `ahead`, their own sum.
-fn crc16_eight(tables: &[u16; 2048], sum: u16, s: &[u8], from: usize, ahead: u16) -> u16
+fn crc16_eight(tables: &[[u16; 256]; 8], sum: u16, s: &[u8], from: usize, ahead: u16) -> u16
     requires eight_tables { EightTables 16 0x8005 tables.now × (from + 8 ≤ length s.now) }
     requires ahead_value { ahead ≡ crc_bits 16 0x8005 0 (bits_of_bytes (take 6 (drop (from + 2) s.now))) }
     ensures { result ≡ crc_bits 16 0x8005 sum (bits_of_bytes (take 8 (drop from s.now))) }
@@ -68,7 +68,7 @@ fn crc16_eight(tables: &[u16; 2048], sum: u16, s: &[u8], from: usize, ahead: u16
 // The CRC-16 of a whole slice, in turns of eight bytes. The look-ups that do not depend on the sum are made a turn ahead,
 // so that they do not wait for it. So the last turn is the one that leaves fewer than sixteen bytes; what it leaves is
 // added byte by byte.
-fn crc16_by_tables(tables: &[u16; 2048], s: &[u8]) -> u16
+fn crc16_by_tables(tables: &[[u16; 256]; 8], s: &[u8]) -> u16
     requires { EightTables 16 0x8005 tables.now }
     ensures { result ≡ crc16_of (bits_of_bytes s.now) }
 {

@@ -2,9 +2,9 @@
 use mathlib.Core.Path.{refl}
 use Rattle.rfc9639.specs.CheckSums.{crc_bit, crc_bits}
 use Rattle.reading.specs.Bytes.{bits_of_byte}
-use Rattle.crc.specs.Private.{sums_from, byte_sums, EightTables}
+use Rattle.crc.specs.Private.{sums_from, byte_sums, tables_from, EightTables}
 use Rattle.crc.proofs.crc16.Goals as goal
 
 pub crc16_by_tables-requires : goal.crc16_by_tables-requires
-unfolding EightTables byte_sums sums_from bits_of_byte crc_bits crc_bit
+unfolding EightTables tables_from byte_sums sums_from bits_of_byte crc_bits crc_bit
 crc16_by_tables-requires c = refl

@@ -2,11 +2,8 @@
 use Prim.Native.Nat.{◌-◌}
 use native.Mathlib.Omega.{arith}
 use lib.Dec.{lit<}
-use Rattle.crc.proofs.BytesApart.{none_looked, one_looked, all_looked}
+use Rattle.crc.proofs.BytesApart.{one_looked, all_looked}
 use Rattle.crc.proofs.crc16_six.Goals as goal
-
-pub loop-k-init : goal.loop-k-init
-loop-k-init c = none_looked _ _ _ _ _
 
 pub loop-k-preserved : goal.loop-k-preserved
 loop-k-preserved c =
