@@ -4,7 +4,7 @@ use native.Mathlib.Nat.{lt_of_lt_of_le, mod-eq_of_lt}
 use native.Mathlib.Numerals.{add-one}
 use native.Mathlib.Omega.{arith}
 use mathlib.Core.Path.{◌≡◌, refl, ap, ap₂, sym, ◌∙◌}
-use mathlib.Core.Bool.{true}
+use mathlib.Core.Bool.{true, false}
 use mathlib.Core.List.{List, ◌++◌}
 use lib.Arith.{digits_lt}
 use lib.ListN.{length, set}
@@ -12,8 +12,10 @@ use lib.Pow.{pow_mono, pow-add, shl_exact}
 use Rattle.reading.specs.NumbersAsBits.{bits_of, unary, spelt}
 use Rattle.reading.proofs.NumbersAsBits.{Bits, bits-bits_of, length-bits_of, spelt-bits_of, bits_of-split, bits_of_mod, bits_of-one, unary-more}
 use Rattle.bit_writer.specs.declared.Pen.{Pen}
-use Rattle.bit_writer.specs.PenWrites.{State, ink, inked, is_pen, Writes}
-use Rattle.bit_writer.proofs.InkedBits.{Good, pen-good, ink_append, ink-good, ink-length, ink-out, ink-few, ink-byte, inked_is}
+use Rattle.bit_writer.specs.declared.BitWriter.{BitWriter}
+use Rattle.bit_writer.specs.PenWrites.{State, ink, inked, is_pen, SameOutput, Appends}
+use Rattle.bit_writer.proofs.ConsecutiveWrites.{same_output, same_then}
+use Rattle.bit_writer.proofs.InkedBits.{Good, pen-good, ink_append, ink-good, ink-length, ink-out, ink-few, ink-byte, inked_is, inked-none}
 
 -- ---- m more bits in the byte being filled
 
@@ -43,50 +45,59 @@ module _ (p : Pen) (m x : ℕ) (low : p.bits < 2 ^ p.held) (room : p.held + m �
 
 -- ---- bits of which the last ones, `rest`, are still to be written: inking them from here gives the whole result
 
-pub record BitsLeft (all : List ℕ) (p₀ : Pen) (s₀ rest : List ℕ) (p : Pen) (s : List ℕ) : Type 0 where
-  pub good : Good p
-  pub long : length s ≡ length s₀
-  pub same : inked all p₀ s₀ ≡ ink rest p s
+pub record BitsLeft (all : List ℕ) (w₀ : BitWriter) (rest : List ℕ) (w : BitWriter) : Type 0 where
+  pub good : Good w.pen
+  pub output : SameOutput w₀.out w.out
+  pub long : length w.out.now ≡ length w₀.out.now
+  pub same : inked all w₀.pen w₀.out.now ≡ ink rest w.pen w.out.now
 
-pub begin : (all : List ℕ) (p : Pen) (s : List ℕ) → is_pen p ≡ true → BitsLeft all p s all p s
-begin all p s e = let g = pen-good p e in record { good = g; long = refl; same = inked_is all p s g }
+pub none_written : (all : List ℕ) {w : BitWriter} → is_pen w.pen ≡ false → Appends all w w
+none_written all e = record { same = same_output; written = sym (inked-none _ _ _ e) }
 
-module _ (all : List ℕ) (p₀ : Pen) (s₀ rest : List ℕ) (p : Pen) (s : List ℕ) (inv : BitsLeft all p₀ s₀ rest p s) where
-  pub output-full : length s ≤ p.byte → Writes all p₀ s₀ p s
-  output-full l = sym (inv.same ∙ ink-out rest p s l)
+pub begin : (all : List ℕ) {w : BitWriter} → is_pen w.pen ≡ true → BitsLeft all w all w
+begin all e =
+    let g = pen-good _ e in record { good = g; output = same_output; long = refl; same = inked_is all _ _ g }
 
-  step : (bs cs : List ℕ) {q : Pen} {t : List ℕ} → Bits bs → rest ≡ bs ++ cs → ◌≡◌ {A = State} (record { pen = q; bytes = t }) (ink bs p s)
-      → BitsLeft all p₀ s₀ cs q t
-  step bs cs h f e = record {
-    good = rw (ap (λ y. y.pen) e) (ink-good bs p s h inv.good);
-    long = ap (λ y. length y.bytes) e ∙ ink-length bs p s ∙ inv.long;
-    same = inv.same ∙ ap (λ y. ink y p s) f ∙ ink_append bs cs p s ∙ ap (λ y. ink cs y.pen y.bytes) (sym e);
+module _ {all : List ℕ} {w₀ : BitWriter} {rest : List ℕ} {w : BitWriter} (inv : BitsLeft all w₀ rest w) where
+  pub output-full : length w.out.now ≤ w.pen.byte → Appends all w₀ w
+  output-full l = record { same = inv.output; written = sym (inv.same ∙ ink-out rest _ _ l) }
+
+  step : (bs cs : List ℕ) {after : BitWriter} → SameOutput w.out after.out → Bits bs → rest ≡ bs ++ cs
+      → ◌≡◌ {A = State} (record { pen = after.pen; bytes = after.out.now }) (ink bs w.pen w.out.now) → BitsLeft all w₀ cs after
+  step bs cs s h f e = record {
+    good = rw (ap (λ y. y.pen) e) (ink-good bs w.pen w.out.now h inv.good);
+    output = same_then inv.output s;
+    long = ap (λ y. length y.bytes) e ∙ ink-length bs w.pen w.out.now ∙ inv.long;
+    same = inv.same ∙ ap (λ y. ink y w.pen w.out.now) f ∙ ink_append bs cs w.pen w.out.now ∙ ap (λ y. ink cs y.pen y.bytes) (sym e);
   }
 
 -- of a number, the m highest of the bits that are left
-module _ (n v : ℕ) (p₀ : Pen) (s₀ : List ℕ) (left : ℕ) (p : Pen) (s : List ℕ) (inv : BitsLeft (bits_of n v) p₀ s₀ (bits_of left v) p s) where
-  pub step-bits : (m : ℕ) {x : ℕ} {q : Pen} {t : List ℕ} → m ≤ left → x ≡ v / 2 ^ (left - m) % 2 ^ m
-      → ◌≡◌ {A = State} (record { pen = q; bytes = t }) (ink (bits_of m x) p s) → BitsLeft (bits_of n v) p₀ s₀ (bits_of (left - m) v) q t
-  step-bits m {x} h ex e =
-      step _ _ _ _ _ _ inv (bits_of m x) (bits_of (left - m) v) (bits-bits_of m x)
+module _ (n v left : ℕ) {w₀ w : BitWriter} (inv : BitsLeft (bits_of n v) w₀ (bits_of left v) w) where
+  pub step-bits : (m : ℕ) {x : ℕ} {after : BitWriter} → m ≤ left → x ≡ v / 2 ^ (left - m) % 2 ^ m → SameOutput w.out after.out
+      → ◌≡◌ {A = State} (record { pen = after.pen; bytes = after.out.now }) (ink (bits_of m x) w.pen w.out.now)
+      → BitsLeft (bits_of n v) w₀ (bits_of (left - m) v) after
+  step-bits m {x} h ex s e =
+      step inv (bits_of m x) (bits_of (left - m) v) s (bits-bits_of m x)
       (ap (λ k. bits_of k v) (let f : left ≡ m + (left - m) = omega arith in f) ∙ bits_of-split m (left - m) v
       ∙ ap (λ y. y ++ bits_of (left - m) v) (sym (bits_of_mod m (v / 2 ^ (left - m))) ∙ ap (bits_of m) (sym ex)))
       e
 
-  pub end-bits : left ≤ 0 → Writes (bits_of n v) p₀ s₀ p s
+  pub end-bits : left ≤ 0 → Appends (bits_of n v) w₀ w
   unfolding bits_of ink
-  end-bits h = sym (inv.same ∙ ap (λ k. ink (bits_of k v) p s) (let e : left ≡ 0 = omega arith in e))
+  end-bits h = record { same = inv.output; written = sym (inv.same ∙ ap (λ k. ink (bits_of k v) w.pen w.out.now) (let e : left ≡ 0 = omega arith in e)) }
 
 -- of some zeros and a one, 32 zeros; then the rest
-module _ (z : ℕ) (p₀ : Pen) (s₀ : List ℕ) (left : ℕ) (p : Pen) (s : List ℕ) (inv : BitsLeft (unary z) p₀ s₀ (unary left) p s) where
-  pub step-zeros : {q : Pen} {t : List ℕ} → 32 ≤ left → Writes (bits_of 32 0) p s q t
-      → BitsLeft (unary z) p₀ s₀ (unary (left - 32)) q t
-  step-zeros h e =
-      step _ _ _ _ _ _ inv (bits_of 32 0) (unary (left - 32)) (bits-bits_of 32 0)
+module _ (z left : ℕ) {w₀ w : BitWriter} (inv : BitsLeft (unary z) w₀ (unary left) w) where
+  pub step-zeros : {after : BitWriter} → 32 ≤ left → Appends (bits_of 32 0) w after → BitsLeft (unary z) w₀ (unary (left - 32)) after
+  step-zeros h a =
+      step inv (bits_of 32 0) (unary (left - 32)) a.same (bits-bits_of 32 0)
       (ap unary (let f : left ≡ 32 + (left - 32) = omega arith in f) ∙ unary-more 32 (left - 32))
-      (e ∙ inked_is (bits_of 32 0) p s inv.good)
+      (a.written ∙ inked_is (bits_of 32 0) w.pen w.out.now inv.good)
 
-  pub end-zeros : {q : Pen} {t : List ℕ} → Writes (bits_of (left + 1) 1) p s q t
-      → Writes (unary z) p₀ s₀ q t
-  end-zeros e =
-      e ∙ inked_is (bits_of (left + 1) 1) p s inv.good ∙ ap (λ y. ink y p s) (ap (λ k. bits_of k 1) (add-one left) ∙ bits_of-one left) ∙ sym inv.same
+  pub end-zeros : {after : BitWriter} → Appends (bits_of (left + 1) 1) w after → Appends (unary z) w₀ after
+  end-zeros a = record {
+    same = same_then inv.output a.same;
+    written =
+        a.written ∙ inked_is (bits_of (left + 1) 1) w.pen w.out.now inv.good ∙ ap (λ y. ink y w.pen w.out.now) (ap (λ k. bits_of k 1) (add-one left) ∙ bits_of-one left)
+        ∙ sym inv.same;
+  }

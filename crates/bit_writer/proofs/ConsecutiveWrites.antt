@@ -1,28 +1,51 @@
 -- Consecutive writes: what several calls of the pen wrote together. Assumes nothing.
 use Prim.Native.Nat.{ℕ}
-use mathlib.Core.Path.{◌≡◌, ap, sym, ◌∙◌}
-use mathlib.Core.List.{List, ◌++◌}
-use Rattle.reading.proofs.NumbersAsBits.{Binary, binary_append}
+use denote.MutBor.{MutBor}
+use mathlib.Core.Path.{◌≡◌, refl, ap, sym, ◌∙◌}
+use mathlib.Core.List.{List, [], ◌++◌}
+use Rattle.reading.proofs.NumbersAsBits.{Bits, Binary, binary_append}
 use Rattle.bit_writer.specs.declared.Pen.{Pen}
-use Rattle.bit_writer.specs.PenWrites.{State, inked, Writes}
-use Rattle.bit_writer.proofs.InkedBits.{inked_append}
+use Rattle.bit_writer.specs.declared.BitWriter.{BitWriter}
+use Rattle.bit_writer.specs.PenWrites.{State, inked, Writes, SameOutput, Appends}
+use Rattle.bit_writer.proofs.InkedBits.{inked_nothing, inked_append}
+
+-- one output, from call to call
+pub same_output : {o : MutBor (List ℕ)} → SameOutput o o
+same_output = record { name = refl; place = refl }
+
+pub same_then : {a b c : MutBor (List ℕ)} → SameOutput a b → SameOutput b c → SameOutput a c
+same_then s t = record { name = t.name ∙ s.name; place = t.place ∙ s.place }
 
 -- the same bits by another name
-pub inked_as : {bs cs : List ℕ} (p : Pen) (s : List ℕ) {x : State} → bs ≡ cs → x ≡ inked bs p s → x ≡ inked cs p s
+inked_as : {bs cs : List ℕ} (p : Pen) (s : List ℕ) {x : State} → bs ≡ cs → x ≡ inked bs p s → x ≡ inked cs p s
 inked_as p s e d = d ∙ ap (λ (l : List ℕ). inked l p s) e
 
--- from the pen p and the bytes s to q and t by some bits
-pub record Wrote (bs : List ℕ) (p : Pen) (s : List ℕ) (q : Pen) (t : List ℕ) : Type 0 where
+-- some bits, and after them some more
+pub writes_then : (bs cs : List ℕ) (p : Pen) (s : List ℕ) {q : Pen} {t : List ℕ} {r : Pen} {u : List ℕ} → Bits bs
+    → Writes bs p s q t → Writes cs q t r u → Writes (bs ++ cs) p s r u
+writes_then bs cs p s b d e = e ∙ ap (λ (x : State). inked cs x.pen x.bytes) d ∙ sym (inked_append bs cs p s b)
+
+pub nothing_appended : {w : BitWriter} → Appends [] w w
+nothing_appended {w} = record { same = same_output; written = sym (inked_nothing w.pen w.out.now) }
+
+-- the same bits by another name
+pub appends_as : {bs cs : List ℕ} {w after : BitWriter} → bs ≡ cs → Appends bs w after → Appends cs w after
+appends_as {bs} {cs} {w} e a = record { same = a.same; written = inked_as w.pen w.out.now e a.written }
+
+-- what several calls wrote, one after the other
+pub record Appended (bs : List ℕ) (w after : BitWriter) : Type 0 where
   pub binary : Binary bs
-  pub same : Writes bs p s q t
+  pub whole : Appends bs w after
 
-pub wrote-once : {bs : List ℕ} {p : Pen} {s : List ℕ} {q : Pen} {t : List ℕ} → Binary bs → Writes bs p s q t → Wrote bs p s q t
-wrote-once h e = record { binary = h; same = e }
+pub appended_once : {bs : List ℕ} {w after : BitWriter} → Binary bs → Appends bs w after → Appended bs w after
+appended_once b a = record { binary = b; whole = a }
 
--- and after them some more
-module _ {bs : List ℕ} {p : Pen} {s : List ℕ} {q : Pen} {t : List ℕ} (w : Wrote bs p s q t) {r : Pen} {u : List ℕ} where
-  pub inked_then : (cs : List ℕ) → Writes cs q t r u → Writes (bs ++ cs) p s r u
-  inked_then cs e = e ∙ ap (λ (x : State). inked cs x.pen x.bytes) w.same ∙ sym (inked_append bs cs p s w.binary.bits)
+module _ {bs : List ℕ} {w first : BitWriter} (a : Appended bs w first) {after : BitWriter} where
+  pub append_then : (cs : List ℕ) → Appends cs first after → Appends (bs ++ cs) w after
+  append_then cs e = record {
+    same = same_then a.whole.same e.same;
+    written = writes_then bs cs w.pen w.out.now a.binary.bits a.whole.written e.written;
+  }
 
-  pub wrote_after : {cs : List ℕ} → Binary cs → Writes cs q t r u → Wrote (bs ++ cs) p s r u
-  wrote_after {cs} h e = record { binary = binary_append w.binary h; same = inked_then cs e }
+  pub appended_after : {cs : List ℕ} → Binary cs → Appends cs first after → Appended (bs ++ cs) w after
+  appended_after {cs} b e = record { binary = binary_append a.binary b; whole = append_then cs e }

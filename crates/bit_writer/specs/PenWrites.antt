@@ -1,6 +1,8 @@
 -- What a pen writes into some bytes, bit by bit. Where the bytes end, it stops: the bits that are left are dropped.
 use Rattle.std.specs.Prelude.{ℕ, ◌+◌, ◌*◌, ◌^◌, ◌≡◌, Bool, ◌&&◌, List, [], ◌∷◌, ltb, length, set, if◌then◌else◌}
+use Rattle.std.specs.Borrow.{MutBor}
 use Rattle.bit_writer.specs.declared.Pen.{Pen}
+use Rattle.bit_writer.specs.declared.BitWriter.{BitWriter}
 
 -- the pen, and the bytes that it writes into
 pub record State : Type 0 where
@@ -32,6 +34,16 @@ inked bs p s = if is_pen p then ink bs p s else record { pen = p; bytes = s }
 unfoldable pub fresh : Pen
 fresh = record { byte = 0; held = 0; bits = 0 }
 
--- What each function that writes promises: where the pen stands after some bits, and what the bytes are then.
+-- where the pen stands after some bits, and what the bytes are then
 abbrev pub Writes : List ℕ → Pen → List ℕ → Pen → List ℕ → Type 0
 Writes bs p s after left = ◌≡◌ {A = State} (record { pen = after; bytes = left }) (inked bs p s)
+
+-- the output is lent as before
+pub record SameOutput (before after : MutBor (List ℕ)) : Type 0 where
+  pub name : after.ghost_name ≡ before.ghost_name
+  pub place : after.ref_ptr ≡ before.ref_ptr
+
+-- What each function that writes promises: the same output, with some bits more.
+pub record Appends (bs : List ℕ) (w after : BitWriter) : Type 0 where
+  pub same : SameOutput w.out after.out
+  pub written : Writes bs w.pen w.out.now after.pen after.out.now

@@ -1,13 +1,13 @@
-// Writes bits into a lent output, most significant first: the counterpart of `input`. A pen goes by value: the byte
-// that it stands at, and the bits of that byte that it holds and has not written yet. Each function answers on every
-// argument, and promises the `inked` (specs/PenWrites.antt) of the bits that it is to write.
+// Writes bits into a lent output, most significant first: the counterpart of `input`. A writer holds the output, and a
+// pen: the byte that it stands at, and the bits of that byte that it holds and has not written yet. Each function
+// answers on every argument, and promises the `inked` (specs/PenWrites.antt) of the bits that it is to write.
 #![tactic(auto)]
 
-ghost use Rattle.std.specs.Prelude.{◌≡◌, ◌+◌, ◌^◌, ◌≤◌, ◌<◌, length};
+ghost use Rattle.std.specs.Prelude.{◌≡◌, ◌+◌, ◌^◌, ◌≤◌, ◌<◌, length, take};
 ghost use Rattle.reading.specs.NumbersAsBits.{bits_of, unary};
-ghost use Rattle.bit_writer.specs.PenWrites.{State, ink, is_pen, Writes};
+ghost use Rattle.bit_writer.specs.PenWrites.{State, ink, is_pen, fresh, SameOutput, Appends};
 
-#[derive(Clone, Copy)]
+#[derive(Clone, Copy, Debug, PartialEq, Eq)]
 pub struct Pen {
     pub byte: usize,
     // How many bits of the byte being filled it holds, at most seven, and which.
@@ -15,84 +15,103 @@ pub struct Pen {
     pub bits: u64,
 }
 
-// The low n bits of v. Each turn of the loop fills the current byte as far as it can.
-pub fn write_bits(out: &mut [u8], pen: Pen, n: u32, v: u64) -> Pen
-    ensures { Writes (bits_of n v) pen out.old result out.new }
-{
-    if !is_pen(pen) {
-        return pen;
+impl Pen {
+    // Whether it holds at most seven bits, and no others.
+    fn is_pen(self) -> bool
+        ensures { result ≡ is_pen self }
+    {
+        self.held < 8 && self.bits >> self.held == 0
     }
-    let mut p = pen;
-    let mut left = n;
-    while 0 < left {
-        let byte = p.byte;
-        let held = p.held;
-        if out.len() <= byte {
-            return p;
+}
+
+#[derive(Drop)]
+pub struct BitWriter<'a> {
+    pub out: &'a mut [u8],
+    pub pen: Pen,
+}
+
+impl<'a> BitWriter<'a> {
+    // At the start of an output.
+    pub fn new(out: &'a mut [u8]) -> BitWriter<'a>
+        ensures { (result.out ≡ out.entry) × (result.pen ≡ fresh) }
+    {
+        BitWriter {
+            out,
+            pen: Pen {
+                byte: 0,
+                held: 0,
+                bits: 0,
+            },
         }
-        let m = number::lesser(8 - held as usize, left as usize) as u32;
-        let bits = number::shift_right(v, left - m) % (1u64 << m);
-        p = put(out, p, m, bits);
-        left -= m;
     }
-    p
 }
 
-// q zeros, and the one that ends them. It stops where the output ends, however many are left.
-pub fn write_unary(out: &mut [u8], pen: Pen, q: u64) -> Pen
-    ensures { Writes (unary q) pen out.old result out.new }
-{
-    if !is_pen(pen) {
-        return pen;
+impl BitWriter<'_> {
+    // The bytes before the pen: all that is written.
+    pub fn written(&self) -> &[u8]
+        ensures { result.now ≡ take self.now.pen.byte self.now.out.now }
+    {
+        &self.out[..self.pen.byte.min(self.out.len())]
     }
-    let mut p = pen;
-    let mut left = q;
-    while 32 <= left {
-        let byte = p.byte;
-        if out.len() <= byte {
-            return p;
+
+    // The low n bits of v. Each turn of the loop fills the current byte as far as it can.
+    pub fn write_bits(&mut self, n: u32, v: u64)
+        ensures { Appends (bits_of n v) self.old self.new }
+    {
+        if !self.pen.is_pen() {
+            return;
         }
-        p = write_bits(out, p, 32, 0);
-        left -= 32;
+        let mut left = n;
+        while 0 < left {
+            if self.out.len() <= self.pen.byte {
+                return;
+            }
+            let m = (8 - self.pen.held).min(left);
+            self.put(m, number::shift_right(v, left - m) % (1 << m));
+            left -= m;
+        }
     }
-    write_bits(out, p, left as u32 + 1, 1)
-}
 
-// Whether it holds at most seven bits, and no others.
-fn is_pen(pen: Pen) -> bool
-    ensures { result ≡ is_pen pen }
-{
-    let held = pen.held;
-    let bits = pen.bits;
-    if 8 <= held {
-        return false;
+    // q zeros, and the one that ends them. It stops where the output ends, however many are left.
+    pub fn write_unary(&mut self, q: u64)
+        ensures { Appends (unary q) self.old self.new }
+    {
+        if !self.pen.is_pen() {
+            return;
+        }
+        let mut left = q;
+        while 32 <= left {
+            if self.out.len() <= self.pen.byte {
+                return;
+            }
+            self.write_bits(32, 0);
+            left -= 32;
+        }
+        self.write_bits(left as u32 + 1, 1);
     }
-    if 0 < bits >> held {
-        return false;
-    }
-    true
-}
 
-// Adds m bits, for which the byte being filled has room. Once it is full, it is written.
-fn put(out: &mut [u8], pen: Pen, m: u32, bits: u64) -> Pen
-    requires { (pen.bits < 2 ^ pen.held) × (pen.byte < length out.old) × (0 < m) × (pen.held + m ≤ 8) × (bits < 2 ^ m) }
-    ensures { ◌≡◌ {A = State} (record { pen = result; bytes = out.new }) (ink (bits_of m bits) pen out.old) }
-{
-    let byte = pen.byte;
-    let held = pen.held;
-    let before = pen.bits;
-    let all = (before << m) + bits;
-    if held + m < 8 {
-        return Pen {
+    // Adds m bits, for which the byte being filled has room. Once it is full, it is written.
+    fn put(&mut self, m: u32, bits: u64)
+        requires { (self.old.pen.bits < 2 ^ self.old.pen.held) × (self.old.pen.byte < length self.old.out.now) × (0 < m) × (self.old.pen.held + m ≤ 8) × (bits < 2 ^ m) }
+        ensures same { SameOutput self.old.out self.new.out }
+        ensures written { ◌≡◌ {A = State} (record { pen = self.new.pen; bytes = self.new.out.now }) (ink (bits_of m bits) self.old.pen self.old.out.now) }
+    {
+        let Pen {
             byte,
-            held: held + m,
-            bits: all,
-        };
-    }
-    out[byte] = all as u8;
-    Pen {
-        byte: byte + 1,
-        held: 0,
-        bits: 0,
+            held,
+            bits: before,
+        } = self.pen;
+        let all = (before << m) + bits;
+        if held + m < 8 {
+            self.pen.held += m;
+            self.pen.bits = all;
+        } else {
+            self.out[byte] = all as u8;
+            self.pen = Pen {
+                byte: byte + 1,
+                held: 0,
+                bits: 0,
+            };
+        }
     }
 }

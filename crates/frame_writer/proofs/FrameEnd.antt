@@ -1,45 +1,22 @@
 -- The end of a frame: where the pen stands; it is the definition's `footed (padded_to_byte ..)`. Assumes nothing.
-use Prim.Native.Nat.{ℕ, zero, suc, ◌+◌, ◌-◌, ◌*◌, ◌/◌, ◌%◌, ◌≤◌, ◌<◌}
+use Prim.Native.Nat.{ℕ, ◌+◌, ◌-◌, ◌*◌, ◌/◌, ◌%◌, ◌≤◌}
 use native.Mathlib.Omega.{arith}
 use mathlib.Core.Path.{◌≡◌, refl, ap, sym, ◌∙◌}
-use mathlib.Core.List.{List, [], ◌++◌}
+use mathlib.Core.List.{List, ◌++◌}
 use lib.ListN.{length, take, drop, length-drop, take-append-drop}
 use lib.Seq.{length-take-le}
 use Rattle.reading.specs.Bytes.{bits_of_bytes}
 use Rattle.reading.specs.NumbersAsBits.{bits_of, bytes_of, spelt}
-use Rattle.reading.proofs.NumbersAsBits.{Binary, bits_of-zero, length-bits_of}
+use Rattle.reading.proofs.NumbersAsBits.{Binary, bits_of-zero}
 use Rattle.rfc9639.specs.CheckSums.{crc16}
 use Rattle.rfc9639.specs.Frame.{padding}
 use Rattle.rfc9639.specs.Write.{padded_to_byte, footed}
 use Rattle.rfc9639.proofs.LengthBound.{length-padded_to_byte}
 use Rattle.rfc9639.proofs.FrameBits.{bits-padded_to_byte}
 use Rattle.bit_writer.specs.declared.Pen.{Pen}
-use Rattle.bit_writer.specs.PenWrites.{State, ink, inked, fresh, Writes}
-use Rattle.bit_writer.proofs.InkedBits.{Good, ink-byte, inked_is, inked-length, inked_append, inked-before, inked-part}
+use Rattle.bit_writer.specs.PenWrites.{State, inked, fresh, Writes}
+use Rattle.bit_writer.proofs.InkedBits.{inked_append, inked-before, inked-part}
 use Rattle.frame_writer.specs.Private.{filled, summed}
-
--- where the pen stands once k zeros fill the byte
-filled_byte : ℕ → Pen → List ℕ → ℕ
-filled_byte k p s = (inked (bits_of k 0) p s).pen.byte
-
-filled_at : (p : Pen) (s : List ℕ) → Good p → p.byte < length s → (h : ℕ) → p.held ≡ h → filled_byte ((8 - h) % 8) p s ≤ length s
-unfolding filled_byte bits_of ink
-filled_at p s g l zero e = let b : filled_byte ((8 - 0) % 8) p s ≡ p.byte = ap (λ (st : State). st.pen.byte) (inked_is [] p s g) in omega (arith, b)
-filled_at p s g l (suc h) e =
-    let n : ℕ = (8 - suc h) % 8 in
-    let k = length-bits_of n 0 in
-    let whole = inked_is (bits_of n 0) p s g ∙ ink-byte (bits_of n 0) p s l (omega (arith, k, e, g.few)) (omega (arith, k, e, g.few)) in
-    let b : filled_byte n p s ≡ p.byte + 1 = ap (λ (st : State). st.pen.byte) whole in
-    omega (arith, b)
-
--- the filled pen stays within the bytes
-pub filled_within : (p : Pen) (s : List ℕ) {q : Pen} {t : List ℕ} → Good p → p.byte < length s → ◌≡◌ {A = State} (record { pen = q; bytes = t }) (filled p s)
-    → q.byte ≤ length t
-unfolding filled filled_byte
-filled_within p s {q} {t} g l e =
-    let b : q.byte ≡ (filled p s).pen.byte = ap (λ (st : State). st.pen.byte) e in
-    let n : length t ≡ length (filled p s).bytes = ap (λ (st : State). length st.bytes) e in
-    omega (arith, b, n, inked-length (bits_of ((8 - p.held) % 8) 0) p s, filled_at p s g l p.held refl)
 
 -- ---- the definition's words
 
@@ -53,14 +30,6 @@ module _ (bs s : List ℕ) (b : Binary bs) (room : (length bs + 7) / 8 + 2 ≤ l
   inked-fresh =
       ap (λ x. inked x fresh s) (sym (take-append-drop (8 * m) bs))
       ∙ inked-part (take (8 * m) bs) (drop (8 * m) bs) s m (length-take-le (8 * m) bs (omega arith)) (omega (arith, length-drop (8 * m) bs)) (omega arith)
-
-  -- the pen stands within the bytes
-  pub pen-within : {p : Pen} {t : List ℕ} → Writes bs fresh s p t → p.byte < length t
-  unfolding m
-  pen-within {p} {t} e =
-      let k : p.byte ≡ m = ap (λ (st : State). st.pen.byte) (e ∙ inked-fresh) in
-      let l : length t ≡ length s = ap (λ (st : State). length st.bytes) e ∙ inked-length bs fresh s in
-      omega (arith, k, l)
 
   -- the bytes before the CRC-16 are the padded bits
   bytes-before-sum : bits_of_bytes (take (inked (padded_to_byte bs) fresh s).pen.byte (inked (padded_to_byte bs) fresh s).bytes) ≡ padded_to_byte bs

@@ -49,10 +49,15 @@ module _ {A : Type 0} (f : ℕ → A) (count : ℕ) where
 
 -- ---- the lanes
 
+-- what a source stores, by its parts
+pub same-stored : {n n' : ℕ} {xs xs' : List ℤ} {lane lane' : Lane} → n ≡ n' → xs ≡ xs' → lane ≡ lane' → stored n xs lane ≡ stored n' xs' lane'
+same-stored e f g = cc
+
 -- the choice that was made for a lane and its width
-pub chosen-lane : (b n : ℕ) (xs : List ℤ) {r : Choice} {w : ℕ} {lane lane' : Lane} → r ≡ choice_of w (stored n xs lane) → w ≡ lane_width b lane → lane ≡ lane' → r ≡ lane_choice b n xs lane'
+pub chosen-lane : (b n : ℕ) (xs : List ℤ) (lane : Lane) {r : Choice} {w : ℕ} {ys : List ℤ} → r ≡ choice_of w ys → w ≡ lane_width b lane → ys ≡ stored n xs lane
+    → r ≡ lane_choice b n xs lane
 unfolding lane_choice
-chosen-lane b n xs {r} {w} {lane} {lane'} e f g = e ∙ ap (λ v. choice_of v (stored n xs lane)) f ∙ ap (lane_choice b n xs) g
+chosen-lane b n xs lane e f g = e ∙ ap₂ choice_of f g
 
 -- the choices for all subframes
 pub planned_all : (a : ChannelAssignment) (b n : ℕ) (xs : List ℤ) {count c : ℕ} {places : List Choice} → Planned (λ i. lane_choice b n xs (lane_of a i)) count places c

@@ -1,7 +1,7 @@
 -- The subframes, one by one: the lane that each stores, its choice, and the bits written. Assumes nothing.
 use Prim.Native.Nat.{ℕ, ◌+◌, ◌≤◌, ◌<◌}
 use native.Mathlib.Omega.{arith}
-use mathlib.Core.Path.{◌≡◌, refl, ap, sym, ◌∙◌}
+use mathlib.Core.Path.{◌≡◌, refl, ap, ap₂, sym, ◌∙◌}
 use mathlib.Core.List.{List, map}
 use lib.IntN.{ℤ}
 use lib.ListN.{get_or, take}
@@ -17,10 +17,11 @@ use Rattle.rfc9639.proofs.Lists.{get_d_map, length-lanes, lane_at, width_within}
 use Rattle.rfc9639.proofs.FrameBits.{bits-lane}
 use Rattle.subframe_choice.specs.declared.Choice.{Choice}
 use Rattle.subframe_choice.specs.Choices.{choice_of}
-use Rattle.bit_writer.specs.declared.Pen.{Pen}
-use Rattle.bit_writer.specs.PenWrites.{State, inked, Writes}
+use Rattle.bit_writer.specs.declared.BitWriter.{BitWriter}
+use Rattle.bit_writer.specs.PenWrites.{Appends}
 use Rattle.subframe_writer.specs.Ways.{written_as}
 use Rattle.subframe_writer.proofs.SubframePieces.{written_some}
+use Rattle.bit_writer.proofs.ConsecutiveWrites.{appends_as}
 use Rattle.bit_writer.proofs.RowLoops.{Unwritten, step}
 use Rattle.frame_writer.specs.Private.{coded_lane, lane_choice}
 
@@ -34,12 +35,10 @@ module _ (a : ChannelAssignment) where
 
 -- ---- one subframe
 
-pub lane_written : (c : Candidate) (b n : ℕ) (xs : List ℤ) (p : Pen) (s : List ℕ) {x : State} {w : ℕ} {lane lane' : Lane} → b ≤ 24
-    → x ≡ inked (written_as c w (stored n xs lane)) p s → w ≡ lane_width b lane → lane ≡ lane' → x ≡ inked (coded_lane c b n xs lane') p s
-lane_written c b n xs p s {x} {w} {lane} {lane'} h e f g =
-    e ∙ ap (λ v. inked (written_as c v (stored n xs lane)) p s) f
-    ∙ ap (λ l. inked l p s) (written_some c (lane_width b lane) (stored n xs lane) (let k = width_within b lane in omega arith))
-    ∙ ap (λ l. inked (coded_lane c b n xs l) p s) g
+pub lane_written : (c : Candidate) (b n : ℕ) (xs : List ℤ) (lane : Lane) {w : ℕ} {ys : List ℤ} → b ≤ 24 → w ≡ lane_width b lane → ys ≡ stored n xs lane
+    → written_as c w ys ≡ coded_lane c b n xs lane
+lane_written c b n xs lane h e f =
+    ap₂ (written_as c) e f ∙ written_some c (lane_width b lane) (stored n xs lane) (let k = width_within b lane in omega arith)
 
 module _ (a : ChannelAssignment) (b n : ℕ) (xs : List ℤ) where
   coded_lane_choice : (lane : Lane) → coded_lane (lane_choice b n xs lane).candidate b n xs lane ≡ lane_bits b n xs lane
@@ -47,10 +46,9 @@ module _ (a : ChannelAssignment) (b n : ℕ) (xs : List ℤ) where
   coded_lane_choice lane = refl
 
   -- the next subframe, as planned
-  pub lane-next : {p₀ : Pen} {s₀ : List ℕ} {c : ℕ} {p : Pen} {s : List ℕ} → Unwritten (lane_bits b n xs) (lanes a) p₀ s₀ c p s → c < channel_count a
-      → {choice : Choice} → choice ≡ lane_choice b n xs (lane_of a c) → {q : Pen} {t : List ℕ}
-      → Writes (coded_lane choice.candidate b n xs (lane_of a c)) p s q t
-      → Unwritten (lane_bits b n xs) (lanes a) p₀ s₀ (c + 1) q t
-  lane-next {p₀} {s₀} {c} {p} {s} u h {choice} e f =
+  pub lane-next : {w₀ : BitWriter} {c : ℕ} {w : BitWriter} → Unwritten (lane_bits b n xs) (lanes a) w₀ c w → c < channel_count a
+      → {choice : Choice} → choice ≡ lane_choice b n xs (lane_of a c) → {after : BitWriter}
+      → Appends (coded_lane choice.candidate b n xs (lane_of a c)) w after → Unwritten (lane_bits b n xs) (lanes a) w₀ (c + 1) after
+  lane-next {w₀} {c} u h {choice} e f =
       step u Mid {y = lane_of a c} (omega (arith, length-lanes a)) (sym (lane_at a c Mid h)) (bits-lane b n xs (lane_of a c))
-      (f ∙ ap (λ (k : Choice). inked (coded_lane k.candidate b n xs (lane_of a c)) p s) e ∙ ap (λ l. inked l p s) (coded_lane_choice (lane_of a c)))
+      (appends_as (ap (λ (k : Choice). coded_lane k.candidate b n xs (lane_of a c)) e ∙ coded_lane_choice (lane_of a c)) f)

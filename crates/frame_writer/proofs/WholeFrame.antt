@@ -1,5 +1,5 @@
 -- The whole frame: header, subframes and end, one after the other. Assumes nothing.
-use Prim.Native.Nat.{ℕ, ◌+◌, ◌/◌, ◌≤◌, ◌<◌}
+use Prim.Native.Nat.{ℕ, ◌+◌, ◌/◌, ◌≤◌}
 use native.Mathlib.Omega.{arith}
 use mathlib.Core.Path.{◌≡◌, ap, ◌∙◌}
 use mathlib.Core.List.{List, ◌++◌}
@@ -14,11 +14,11 @@ use Rattle.rfc9639.proofs.FrameBits.{bits-header, bits-subframes, length-frame_b
 use Rattle.bit_writer.specs.declared.Pen.{Pen}
 use Rattle.bit_writer.specs.PenWrites.{State, fresh, Writes}
 use Rattle.bit_writer.proofs.InkedBits.{Good, fresh-good, inked-good, inked-whole}
-use Rattle.bit_writer.proofs.ConsecutiveWrites.{wrote-once, inked_then}
+use Rattle.bit_writer.proofs.ConsecutiveWrites.{writes_then}
 use Rattle.header_writer.specs.HeaderResult.{header_written}
 use Rattle.header_writer.proofs.WrittenHeader.{header_written-room}
 use Rattle.frame_writer.specs.Private.{filled, summed}
-use Rattle.frame_writer.proofs.FrameEnd.{pen-within, footed_is}
+use Rattle.frame_writer.proofs.FrameEnd.{footed_is}
 
 -- its length
 pub length_of_parts : (set : FrameSetting) (xs : List ℤ) {bits : ℕ} → bits ≡ length (subframes_bits set xs)
@@ -42,13 +42,10 @@ module _ (set : FrameSetting) (xs : List ℤ) (s : List ℕ) (room : length (fra
     unpadded_written : Writes unpadded fresh s p u
     unfolding unpadded
     unpadded_written =
-        inked_then (wrote-once (bits-header set) (e ∙ header_written-room set s (omega (arith, length-frame set xs, length-append (header_bits set) (subframes_bits set xs))))) (subframes_bits set xs) f
+        writes_then (header_bits set) (subframes_bits set xs) fresh s (bits-header set).bits (e ∙ header_written-room set s (omega (arith, length-frame set xs, length-append (header_bits set) (subframes_bits set xs)))) f
 
     pub unpadded-good : Good p
     unpadded-good = inked-good unpadded fresh s unpadded-binary.bits fresh-good unpadded_written
-
-    pub unpadded-within : p.byte < length u
-    unpadded-within = pen-within unpadded s unpadded-binary unpadded-room unpadded_written
 
     -- and the end
     pub frame_is : {q : Pen} {v : List ℕ} → ◌≡◌ {A = State} (record { pen = q; bytes = v }) (summed (filled p u)) → v ≡ frame_bytes set xs ++ drop (length (frame_bytes set xs)) s

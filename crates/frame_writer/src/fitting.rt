@@ -14,12 +14,10 @@ pub fn all_fit(samples: &[i32], bits: u32) -> bool
     requires { (1 ≤ bits) × (bits ≤ 32) }
     ensures { result ≡ all_fit bits samples.now }
 {
-    let mut i = 0;
-    while i < samples.len() {
-        if !does_fit(samples[i], bits) {
+    for x in samples {
+        if !does_fit(*x, bits) {
             return false;
         }
-        i += 1;
     }
     true
 }

@@ -1,17 +1,16 @@
 // The end of a frame (RFC 9639 section 9.3): zeros up to a whole byte, then the CRC-16 of all bytes before it.
-ghost use Rattle.std.specs.Prelude.{◌≡◌, ◌^◌, ◌<◌, length};
-ghost use Rattle.bit_writer.specs.PenWrites.{State};
+ghost use Rattle.std.specs.Prelude.{◌≡◌, ◌<◌};
+ghost use Rattle.bit_writer.specs.PenWrites.{State, SameOutput};
 ghost use Rattle.frame_writer.specs.Private.{filled, summed};
 
-use bit_writer::Pen;
+use bit_writer::BitWriter;
 
-pub fn write_footer(out: &mut [u8], pen: Pen) -> Pen
-    requires { (pen.held < 8) × (pen.bits < 2 ^ pen.held) × (pen.byte < length out.old) }
-    ensures { ◌≡◌ {A = State} (record { pen = result; bytes = out.new }) (summed (filled pen out.old)) }
+pub fn write_footer(writer: &mut BitWriter)
+    requires { writer.old.pen.held < 8 }
+    ensures { SameOutput writer.old.out writer.new.out × ◌≡◌ {A = State} (record { pen = writer.new.pen; bytes = writer.new.out.now }) (summed (filled writer.old.pen writer.old.out.now)) }
 {
-    let held = pen.held;
-    let after_padding = bit_writer::write_bits(out, pen, (8 - held) % 8, 0);
-    let end = after_padding.byte;
-    let sum = crc::crc16(&out[..end]);
-    bit_writer::write_bits(out, after_padding, 16, sum as u64)
+    let padding = (8 - writer.pen.held) % 8;
+    writer.write_bits(padding, 0);
+    let sum = crc::crc16(writer.written());
+    writer.write_bits(16, sum as u64);
 }

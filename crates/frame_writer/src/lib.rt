@@ -36,9 +36,9 @@ fn write_planned(samples: &[i32], set: FrameSetting, choices: [Choice; 8], out: 
     requires { InRange set × LaneChoices set samples.now choices × (length (frame_bytes set samples.now) ≤ length out.old) }
     ensures { out.new ≡ frame_bytes set samples.now ++ drop (length (frame_bytes set samples.now)) out.old }
 {
-    let after_header = header_writer::write_header(set, out);
-    let after_subframes = write_subframes(samples, set, choices, out, after_header);
-    write_footer(out, after_subframes);
+    let mut writer = header_writer::write_header(set, out);
+    write_subframes(samples, set, choices, &mut writer);
+    write_footer(&mut writer);
 }
 
 // Writes a frame of samples that stand channel after channel, and gives its length in bytes. A refusal leaves the output

@@ -1,3 +1,2 @@
 -- The result of writing a header.
 pub mod HeaderResult
-pub mod Private

@@ -18,7 +18,7 @@ use rfc9639::Candidate;
 use subframe_samples::Source;
 use tally::quotient_sums;
 
-#[derive(Clone, Copy)]
+#[derive(Clone, Copy, Debug, PartialEq, Eq)]
 pub struct Choice {
     pub candidate: Candidate,
     // Of the whole subframe.
@@ -27,29 +27,24 @@ pub struct Choice {
 
 // The best of a choice and a fixed predictor with each of its parameters. Before the Rice codes stand the subframe's
 // header, the warm-up samples, and the residual's header: 8, order * width and 10 bits.
-fn better_fixed(best: Choice, samples: &[i32], source: Source, width: u32, order: u32) -> Choice
-    requires { (order < 5) × (order < length (stored_by source samples.now)) }
-    ensures { result ≡ fewest_of weight best (priced_fixed width (stored_by source samples.now) order) }
+fn better_fixed(best: Choice, source: &Source, width: u32, order: u32) -> Choice
+    requires { (order < 5) × (order < length (stored_by source.now)) }
+    ensures { result ≡ fewest_of weight best (priced_fixed width (stored_by source.now) order) }
 {
-    let count = number::saturating_sub(
-        subframe_samples::stored_len(samples, source),
-        order as usize,
-    );
+    let count = source.len().saturating_sub(order as usize);
     let head = plain_bits(order as usize, width) + 10;
-    let sums = quotient_sums(samples, source, order, count);
+    let sums = quotient_sums(source, order, count);
     best_parameter(best, &sums, order, head, count as u64)
 }
 
 // The first of the candidates that have the fewest bits.
-pub fn choose(samples: &[i32], source: Source, width: u32) -> Choice
-    ensures { result ≡ choice_of width (stored_by source samples.now) }
+pub fn choose(source: &Source, width: u32) -> Choice
+    ensures { result ≡ choice_of width (stored_by source.now) }
 {
-    let limit = number::lesser(5, subframe_samples::stored_len(samples, source));
-    let mut best = best_plain(samples, source, width);
-    let mut order: usize = 0;
-    while order < limit {
-        best = better_fixed(best, samples, source, width, order as u32);
-        order += 1;
+    let limit = source.len().min(5);
+    let mut best = best_plain(source, width);
+    for order in 0..limit {
+        best = better_fixed(best, source, width, order as u32);
     }
     best
 }

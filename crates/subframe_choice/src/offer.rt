@@ -9,10 +9,7 @@ use rfc9639::Candidate;
 pub fn better(best: Choice, other: Choice) -> Choice
     ensures { result ≡ fewest_of weight best (other ∷ []) }
 {
-    if other.bits < best.bits {
-        return other;
-    }
-    best
+    if other.bits < best.bits { other } else { best }
 }
 
 // The best of a choice and a fixed predictor with each of its parameters: `head` bits, then `count` residuals. `sums`
@@ -22,15 +19,12 @@ pub fn best_parameter(best: Choice, sums: &[u64; 15], order: u32, head: u64, cou
     ensures { result ≡ fewest_of weight best (offers order head count 0 sums.now) }
 {
     let mut found = best;
-    let mut k: u32 = 0;
-    while k < 15 {
-        let bits = head + sums[k as usize] + count * (k as u64 + 1);
+    for k in 0..15 {
         let offer = Choice {
-            candidate: Candidate::Fixed(order, k),
-            bits,
+            candidate: Candidate::Fixed(order, k as u32),
+            bits: head + sums[k] + count * (k as u64 + 1),
         };
         found = better(found, offer);
-        k += 1;
     }
     found
 }

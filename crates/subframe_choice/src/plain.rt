@@ -10,18 +10,14 @@ use rfc9639::Candidate;
 use subframe_samples::Source;
 
 // Whether all samples are equal.
-fn is_uniform(samples: &[i32], source: Source) -> bool
-    ensures { result ≡ uniform (stored_by source samples.now) }
+fn is_uniform(source: &Source) -> bool
+    ensures { result ≡ uniform (stored_by source.now) }
 {
-    let count = subframe_samples::stored_len(samples, source);
-    let first = subframe_samples::stored_sample(samples, source, 0);
-    let mut i: usize = 1;
-    while i < count {
-        let x = subframe_samples::stored_sample(samples, source, i);
-        if x != first {
+    let first = source.sample(0);
+    for i in 1..source.len() {
+        if source.sample(i) != first {
             return false;
         }
-        i += 1;
     }
     true
 }
@@ -35,20 +31,20 @@ pub fn plain_bits(count: usize, width: u32) -> u64
 }
 
 // The better of constant, where all samples are equal, and verbatim.
-pub fn best_plain(samples: &[i32], source: Source, width: u32) -> Choice
-    ensures { result ≡ best_plain width (stored_by source samples.now) }
+pub fn best_plain(source: &Source, width: u32) -> Choice
+    ensures { result ≡ best_plain width (stored_by source.now) }
 {
-    let count = subframe_samples::stored_len(samples, source);
+    let count = source.len();
     let verbatim = Choice {
         candidate: Candidate::Verbatim,
         bits: plain_bits(count, width),
     };
-    if !is_uniform(samples, source) {
+    if !is_uniform(source) {
         return verbatim;
     }
     let constant = Choice {
         candidate: Candidate::Constant,
-        bits: plain_bits(number::lesser(1, count), width),
+        bits: plain_bits(count.min(1), width),
     };
     better(constant, verbatim)
 }

@@ -11,25 +11,20 @@ fn add_quotients(sums: &mut [u64; 15], f: u64)
     requires { (length sums.old ≡ 15) × Under (2 ^ 60) sums.old × (f < 2 ^ 60) }
     ensures { sums.new ≡ add_quotients f 0 sums.old }
 {
-    let mut k: usize = 0;
-    while k < 15 {
-        sums[k] += f >> k;
-        k += 1;
+    for (k, sum) in sums.iter_mut().enumerate() {
+        *sum += f >> k;
     }
 }
 
 // The sums over the `count` residuals of a fixed predictor.
-pub fn quotient_sums(samples: &[i32], source: Source, order: u32, count: usize) -> [u64; 15]
-    requires { (count < 2 ^ 16) × (count ≡ length (fixed_residuals order (stored_by source samples.now))) }
-    ensures { (result ≡ sums_of (fixed_residuals order (stored_by source samples.now))) × Under (2 ^ 60) result }
+pub fn quotient_sums(source: &Source, order: u32, count: usize) -> [u64; 15]
+    requires { (count < 2 ^ 16) × (count ≡ length (fixed_residuals order (stored_by source.now))) }
+    ensures { (result ≡ sums_of (fixed_residuals order (stored_by source.now))) × Under (2 ^ 60) result }
 {
     let mut sums = [0u64; 15];
-    let mut j: usize = 0;
-    while j < count {
-        let r = subframe_samples::fixed_residual(samples, source, order, j);
-        let f = signed::fold(r);
-        add_quotients(&mut sums, f);
-        j += 1;
+    for j in 0..count {
+        let folded = signed::fold(source.fixed_residual(order, j));
+        add_quotients(&mut sums, folded);
     }
     sums
 }

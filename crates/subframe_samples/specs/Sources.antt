@@ -4,5 +4,5 @@ use Rattle.rfc9639.specs.Write.{stored}
 use Rattle.subframe_samples.specs.declared.Source.{Source}
 
 -- what a subframe stores, of samples that stand channel after channel
-abbrev pub stored_by : Source → List ℤ → List ℤ
-stored_by source xs = stored source.size xs source.lane
+abbrev pub stored_by : Source → List ℤ
+stored_by source = stored source.size source.samples.now source.lane

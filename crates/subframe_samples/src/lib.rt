@@ -14,10 +14,10 @@ use predict::residual_at;
 use rfc9639::Lane;
 use sample::sample_at;
 
-// Which of the lent samples a subframe stores: `size` samples a channel. The samples are lent beside it, since Rattle's
-// borrow checker does not cover a struct that holds a slice.
+// Which of the lent samples a subframe stores: `size` samples a channel.
 #[derive(Clone, Copy)]
-pub struct Source {
+pub struct Source<'a> {
+    pub samples: &'a [i32],
     pub size: u16,
     pub lane: Lane,
 }
@@ -27,41 +27,44 @@ fn channel_len(len: usize, size: u16, c: u32) -> usize
     ensures { result ≡ min size (len - c * size) }
 {
     let start = c as usize * size as usize;
-    number::lesser(size as usize, number::saturating_sub(len, start))
+    (size as usize).min(len.saturating_sub(start))
 }
 
-// How many samples the subframe stores: `size` of them, if the lent samples suffice.
-pub fn stored_len(samples: &[i32], source: Source) -> usize
-    ensures { result ≡ length (stored_by source samples.now) }
-{
-    let size = source.size;
-    let lane = source.lane;
-    match lane {
-        Lane::Channel(c) => channel_len(samples.len(), size, c),
-        // As many pairs as the second channel has samples.
-        Lane::Mid => channel_len(samples.len(), size, 1),
-        Lane::Side => channel_len(samples.len(), size, 1),
+impl Source<'_> {
+    // How many samples the subframe stores: `size` of them, if the lent samples suffice.
+    pub fn len(&self) -> usize
+        ensures { (result ≡ length (stored_by self.now)) × (result < 2 ^ 16) }
+    {
+        let all = self.samples.len();
+        match self.lane {
+            Lane::Channel(c) => channel_len(all, self.size, c),
+            // As many pairs as the second channel has samples.
+            Lane::Mid => channel_len(all, self.size, 1),
+            Lane::Side => channel_len(all, self.size, 1),
+        }
     }
-}
 
-// Sample i of the subframe. A side sample needs one bit more than the samples of its channels.
-pub fn stored_sample(samples: &[i32], source: Source, i: usize) -> i64
-    ensures { result ≡ get_or (stored_by source samples.now) i (pos 0) }
-{
-    if stored_len(samples, source) <= i {
-        return 0;
+    // Sample i of the subframe. A side sample needs one bit more than the samples of its channels.
+    pub fn sample(&self, i: usize) -> i64
+        ensures { result ≡ get_or (stored_by self.now) i (pos 0) }
+    {
+        if i < self.len() {
+            sample_at(self, i)
+        } else {
+            0
+        }
     }
-    sample_at(samples, source, i)
-}
 
-// Residual j of a fixed predictor (RFC 9639 section 9.2.5): that of sample order + j. The bound on its size is for
-// callers that add up residuals.
-pub fn fixed_residual(samples: &[i32], source: Source, order: u32, j: usize) -> i64
-    ensures { (result ≡ get_or (fixed_residuals order (stored_by source samples.now)) j (pos 0)) × (nat_abs result < 2 ^ 38) }
-{
-    let warm_up = order as usize;
-    if number::saturating_sub(stored_len(samples, source), warm_up) <= j {
-        return 0;
+    // Residual j of a fixed predictor (RFC 9639 section 9.2.5): that of sample order + j. The bound on its size is for
+    // callers that add up residuals.
+    pub fn fixed_residual(&self, order: u32, j: usize) -> i64
+        ensures { (result ≡ get_or (fixed_residuals order (stored_by self.now)) j (pos 0)) × (nat_abs result < 2 ^ 38) }
+    {
+        let warm_up = order as usize;
+        if j < self.len().saturating_sub(warm_up) {
+            residual_at(self, order, warm_up + j)
+        } else {
+            0
+        }
     }
-    residual_at(samples, source, order, warm_up + j)
 }

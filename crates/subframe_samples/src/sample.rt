@@ -26,39 +26,34 @@ fn side(left: i32, right: i32) -> i64
     left as i64 - right as i64
 }
 
-// A sample of each of the first two channels.
-#[derive(Clone, Copy)]
-struct ChannelPair {
-    left: i32,
-    right: i32,
-}
-
-fn pair_at(samples: &[i32], size: usize, i: usize) -> ChannelPair
+// Sample i of each of the first two channels.
+fn pair_at(samples: &[i32], size: usize, i: usize) -> (i32, i32)
     requires { size + i < length samples.now }
-    ensures { (result.left ≡ get_or samples.now i (pos 0)) × (result.right ≡ get_or samples.now (size + i) (pos 0)) }
+    ensures { (result.0 ≡ get_or samples.now i (pos 0)) × (result.1 ≡ get_or samples.now (size + i) (pos 0)) }
 {
-    ChannelPair {
-        left: samples[i],
-        right: samples[size + i],
-    }
+    (samples[i], samples[size + i])
 }
 
 // Sample i of the subframe, which has it.
-pub fn sample_at(samples: &[i32], source: Source, i: usize) -> i64
-    requires { i < length (stored_by source samples.now) }
-    ensures { (result ≡ get_or (stored_by source samples.now) i (pos 0)) × (nat_abs result ≤ 2 ^ 32) }
+pub fn sample_at(source: &Source, i: usize) -> i64
+    requires { i < length (stored_by source.now) }
+    ensures { (result ≡ get_or (stored_by source.now) i (pos 0)) × (nat_abs result ≤ 2 ^ 32) }
 {
-    let size = source.size as usize;
-    let lane = source.lane;
+    let Source {
+        samples,
+        size,
+        lane,
+    } = *source;
+    let size = size as usize;
     match lane {
         Lane::Channel(c) => samples[c as usize * size + i] as i64,
         Lane::Mid => {
-            let pair = pair_at(samples, size, i);
-            mid(pair.left, pair.right)
+            let (left, right) = pair_at(samples, size, i);
+            mid(left, right)
         }
         Lane::Side => {
-            let pair = pair_at(samples, size, i);
-            side(pair.left, pair.right)
+            let (left, right) = pair_at(samples, size, i);
+            side(left, right)
         }
     }
 }

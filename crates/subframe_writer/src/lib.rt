@@ -9,102 +9,62 @@ ghost use Rattle.std.specs.Prelude.{◌≤◌, take};
 ghost use Rattle.rfc9639.specs.declared.Candidate.TheVariants.{Fixed};
 ghost use Rattle.rfc9639.specs.SubframeCoding.{plain, subframe_header_bits, coded_as};
 ghost use Rattle.subframe_samples.specs.Sources.{stored_by};
-ghost use Rattle.bit_writer.specs.PenWrites.{Writes};
+ghost use Rattle.bit_writer.specs.PenWrites.{Appends};
 ghost use Rattle.subframe_writer.specs.Ways.{written_as};
 ghost use Rattle.subframe_writer.specs.Private.{head_and_plain};
 
-use bit_writer::Pen;
+use bit_writer::BitWriter;
 use residual::write_residual;
 use rfc9639::Candidate;
 use subframe_samples::Source;
 
 // The subframe's header (section 9.2.1).
-fn write_head(out: &mut [u8], pen: Pen, code: u64) -> Pen
-    ensures { Writes (subframe_header_bits code) pen out.old result out.new }
+fn write_head(writer: &mut BitWriter, code: u64)
+    ensures { Appends (subframe_header_bits code) writer.old writer.new }
 {
-    let after_zero = bit_writer::write_bits(out, pen, 1, 0);
-    let after_code = bit_writer::write_bits(out, after_zero, 6, code);
-    bit_writer::write_bits(out, after_code, 1, 0)
+    writer.write_bits(1, 0);
+    writer.write_bits(6, code);
+    writer.write_bits(1, 0);
 }
 
 // The first samples as they are, at most `most` of them.
-fn write_plain(
-    samples: &[i32],
-    source: Source,
-    width: u32,
-    most: usize,
-    out: &mut [u8],
-    pen: Pen,
-) -> Pen
+fn write_plain(source: &Source, width: u32, most: usize, writer: &mut BitWriter)
     requires { width ≤ 64 }
-    ensures { Writes (plain width (take most (stored_by source samples.now))) pen out.old result out.new }
+    ensures { Appends (plain width (take most (stored_by source.now))) writer.old writer.new }
 {
-    let count = number::lesser(most, subframe_samples::stored_len(samples, source));
-    let mut p = pen;
-    let mut i = 0;
-    while i < count {
-        let x = subframe_samples::stored_sample(samples, source, i);
-        p = bit_writer::write_bits(out, p, width, signed::low_bits(x, width));
-        i += 1;
+    for i in 0..most.min(source.len()) {
+        writer.write_bits(width, signed::low_bits(source.sample(i), width));
     }
-    p
 }
 
 // The header, then the first samples as they are: every subframe starts with these.
-fn write_head_and_plain(
-    samples: &[i32],
-    source: Source,
-    width: u32,
-    code: u64,
-    most: usize,
-    out: &mut [u8],
-    pen: Pen,
-) -> Pen
+fn write_head_and_plain(source: &Source, width: u32, code: u64, most: usize, writer: &mut BitWriter)
     requires { width ≤ 64 }
-    ensures { Writes (head_and_plain code width most (stored_by source samples.now)) pen out.old result out.new }
+    ensures { Appends (head_and_plain code width most (stored_by source.now)) writer.old writer.new }
 {
-    let p = write_head(out, pen, code);
-    write_plain(samples, source, width, most, out, p)
+    write_head(writer, code);
+    write_plain(source, width, most, writer);
 }
 
 // A fixed predictor (section 9.2.5) of any order, with any parameter.
-fn write_fixed(
-    samples: &[i32],
-    source: Source,
-    width: u32,
-    order: u32,
-    k: u32,
-    out: &mut [u8],
-    pen: Pen,
-) -> Pen
+fn write_fixed(source: &Source, width: u32, order: u32, k: u32, writer: &mut BitWriter)
     requires { width ≤ 64 }
-    ensures { Writes (coded_as (Fixed order k) width (stored_by source samples.now)) pen out.old result out.new }
+    ensures { Appends (coded_as (Fixed order k) width (stored_by source.now)) writer.old writer.new }
 {
-    let code = 8 + order as u64;
-    let p = write_head_and_plain(samples, source, width, code, order as usize, out, pen);
-    write_residual(samples, source, order, k, out, p)
+    write_head_and_plain(source, width, 8 + order as u64, order as usize, writer);
+    write_residual(source, order, k, writer);
 }
 
 // The subframe, stored in the given way.
-pub fn write_subframe(
-    samples: &[i32],
-    source: Source,
-    width: u32,
-    candidate: Candidate,
-    out: &mut [u8],
-    pen: Pen,
-) -> Pen
-    ensures { Writes (written_as candidate width (stored_by source samples.now)) pen out.old result out.new }
+pub fn write_subframe(source: &Source, width: u32, candidate: Candidate, writer: &mut BitWriter)
+    ensures { Appends (written_as candidate width (stored_by source.now)) writer.old writer.new }
 {
     if 64 < width {
-        return pen;
+        return;
     }
     match candidate {
-        Candidate::Constant => write_head_and_plain(samples, source, width, 0, 1, out, pen),
-        Candidate::Verbatim => {
-            let count = subframe_samples::stored_len(samples, source);
-            write_head_and_plain(samples, source, width, 1, count, out, pen)
-        }
-        Candidate::Fixed(order, k) => write_fixed(samples, source, width, order, k, out, pen),
+        Candidate::Constant => write_head_and_plain(source, width, 0, 1, writer),
+        Candidate::Verbatim => write_head_and_plain(source, width, 1, source.len(), writer),
+        Candidate::Fixed(order, k) => write_fixed(source, width, order, k, writer),
     }
 }

@@ -2,55 +2,35 @@
 ghost use Rattle.reading.specs.NumbersAsBits.{row};
 ghost use Rattle.rfc9639.specs.SubframeCoding.{rice_bits, residual_bits, fixed_residuals};
 ghost use Rattle.subframe_samples.specs.Sources.{stored_by};
-ghost use Rattle.bit_writer.specs.PenWrites.{Writes};
+ghost use Rattle.bit_writer.specs.PenWrites.{Appends};
 
-use bit_writer::Pen;
+use bit_writer::BitWriter;
 use subframe_samples::Source;
 
 // One residual: the quotient in unary, then the remainder.
-fn write_rice(out: &mut [u8], pen: Pen, k: u32, r: i64) -> Pen
-    ensures { Writes (rice_bits k r) pen out.old result out.new }
+fn write_rice(writer: &mut BitWriter, k: u32, r: i64)
+    ensures { Appends (rice_bits k r) writer.old writer.new }
 {
     let folded = signed::fold(r);
-    let p = bit_writer::write_unary(out, pen, number::shift_right(folded, k));
-    bit_writer::write_bits(out, p, k, folded)
+    writer.write_unary(number::shift_right(folded, k));
+    writer.write_bits(k, folded);
 }
 
 // All residuals, one after the other.
-fn write_rices(samples: &[i32], source: Source, order: u32, k: u32, out: &mut [u8], pen: Pen) -> Pen
-    ensures { Writes (row (rice_bits k) (fixed_residuals order (stored_by source samples.now))) pen out.old result out.new }
+fn write_rices(source: &Source, order: u32, k: u32, writer: &mut BitWriter)
+    ensures { Appends (row (rice_bits k) (fixed_residuals order (stored_by source.now))) writer.old writer.new }
 {
-    let count = number::saturating_sub(
-        subframe_samples::stored_len(samples, source),
-        order as usize,
-    );
-    let mut p = pen;
-    let mut j = 0;
-    while j < count {
-        p = write_rice(
-            out,
-            p,
-            k,
-            subframe_samples::fixed_residual(samples, source, order, j),
-        );
-        j += 1;
+    for j in 0..source.len().saturating_sub(order as usize) {
+        write_rice(writer, k, source.fixed_residual(order, j));
     }
-    p
 }
 
 // The coding method 0, the partition order 0, the parameter of the one partition, and its residuals.
-pub fn write_residual(
-    samples: &[i32],
-    source: Source,
-    order: u32,
-    k: u32,
-    out: &mut [u8],
-    pen: Pen,
-) -> Pen
-    ensures { Writes (residual_bits k (fixed_residuals order (stored_by source samples.now))) pen out.old result out.new }
+pub fn write_residual(source: &Source, order: u32, k: u32, writer: &mut BitWriter)
+    ensures { Appends (residual_bits k (fixed_residuals order (stored_by source.now))) writer.old writer.new }
 {
-    let after_method = bit_writer::write_bits(out, pen, 2, 0);
-    let after_order = bit_writer::write_bits(out, after_method, 4, 0);
-    let after_parameter = bit_writer::write_bits(out, after_order, 4, k as u64);
-    write_rices(samples, source, order, k, out, after_parameter)
+    writer.write_bits(2, 0);
+    writer.write_bits(4, 0);
+    writer.write_bits(4, k as u64);
+    write_rices(source, order, k, writer);
 }

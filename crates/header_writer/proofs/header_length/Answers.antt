@@ -15,4 +15,4 @@ overflow_add-result-2 c = omega (arith, c.number_length.ensures, number_at-most 
 pub returns : goal.returns
 returns c =
     let set = c.args.set in
-    omega (arith, length-header set, length_fields set, c.number_length.ensures, ap length c.size_width-width.ensures ∙ length-bits_of _ _)
+    omega (arith, length-header set, length_fields set, c.number_length.ensures, ap length c.size_width.ensures ∙ length-bits_of _ _)

@@ -6,7 +6,7 @@ use mathlib.Core.List.{List}
 use lib.IntN.{ℤ}
 use lib.ListN.{length}
 use Rattle.rfc9639.specs.SubframeCoding.{fixed_residuals}
-use Rattle.rfc9639.proofs.Lengths.{length-fixed_residuals, stored_at_most}
+use Rattle.rfc9639.proofs.Lengths.{length-fixed_residuals}
 use Rattle.number.proofs.ProductSums.{product_at_most}
 use Rattle.subframe_choice.proofs.QuotientSums.{length-sums}
 use Rattle.subframe_choice.proofs.CandidateBits.{fixed_choice}
@@ -27,13 +27,13 @@ overflow_add-head c = record { fits = omega (arith, head_small _ _ c.requires.0 
 
 pub quotient_sums-sums-requires : goal.quotient_sums-sums-requires
 quotient_sums-sums-requires c =
-    (omega (arith, stored_at_most c.args.source.size c.args.samples.now c.args.source.lane), count_is _ _ c.saturating_sub-count.ensures c.stored_len.ensures)
+    (omega (arith, c.saturating_sub-count.ensures, c.len.ensures.1), count_is _ _ c.saturating_sub-count.ensures c.len.ensures.0)
 
 pub best_parameter-requires : goal.best_parameter-requires
 best_parameter-requires c =
-    (ap length c.quotient_sums-sums.ensures.0 ∙ length-sums _, c.quotient_sums-sums.ensures.1, head_small _ _ c.requires.0 c.ranges.width.fits c.plain_bits-head.ensures, omega (arith, stored_at_most c.args.source.size c.args.samples.now c.args.source.lane))
+    (ap length c.quotient_sums-sums.ensures.0 ∙ length-sums _, c.quotient_sums-sums.ensures.1, head_small _ _ c.requires.0 c.ranges.width.fits c.plain_bits-head.ensures, omega (arith, c.saturating_sub-count.ensures, c.len.ensures.1))
 
 pub returns : goal.returns
 returns c =
-    fixed_choice _ _ _ (omega arith) (head_is _ _ c.plain_bits-head.ensures) (count_is _ _ c.saturating_sub-count.ensures c.stored_len.ensures)
+    fixed_choice _ _ _ (omega arith) (head_is _ _ c.plain_bits-head.ensures) (count_is _ _ c.saturating_sub-count.ensures c.len.ensures.0)
     c.quotient_sums-sums.ensures.0 c.best_parameter.ensures

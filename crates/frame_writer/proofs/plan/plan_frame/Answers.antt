@@ -7,7 +7,7 @@ use Rattle.frame_writer.proofs.SubframeBits.{counted_none, counted-more, counted
 use Rattle.frame_writer.proofs.plan.plan_frame.Goals as goal
 
 pub loop-c-init : goal.loop-c-init
-loop-c-init c = (begin _ _ (rw c.channels_of_code-count.ensures (channels_between _).1) _ refl, counted_none _ _ _ _)
+loop-c-init c = (begin _ _ (rw c.channels_of_code-c-end.ensures (channels_between _).1) _ refl, counted_none _ _ _ _)
 
 pub overflow_add-bits : goal.overflow_add-bits
 overflow_add-bits c =
@@ -22,7 +22,7 @@ loop-c-preserved c = (
 
 pub returns : goal.returns
 returns c =
-    let i = c.loop-c.invariant in let n = c.channels_of_code-count.ensures in (
+    let i = c.loop-c.invariant in let n = c.channels_of_code-c-end.ensures in (
       planned_all _ _ _ _ i.0 c.loop-c-test.false n,
       counted-all _ _ i.1 (at_end _ _ i.0 c.loop-c-test.false) n,
       omega (arith, i.0.few, i.0.within, i.1.small),

@@ -7,4 +7,4 @@ use Rattle.rfc9639.proofs.LengthBound.{length-followers}
 use Rattle.header_writer.proofs.coded.number_length.Goals as goal
 
 pub returns : goal.returns
-returns c = add-one _ ∙ ap suc (sym (length-followers _ _)) ∙ ap length (sym c.form_of-form.ensures.0)
+returns c = add-one _ ∙ ap suc (sym (length-followers _ _)) ∙ ap length (sym c.form_of-more.ensures.0)

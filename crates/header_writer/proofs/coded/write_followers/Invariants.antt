@@ -3,7 +3,4 @@ use Rattle.header_writer.proofs.WrittenNumber.{Following}
 use Rattle.header_writer.proofs.coded.write_followers.Given as goal
 
 abbrev pub invariant-loop-left : goal.invariant-loop-left
-invariant-loop-left l = Following l.v l.n l.initial.p l.initial.out l.left l.p l.out
-
-abbrev pub decreases-loop-left : goal.decreases-loop-left
-decreases-loop-left l = l.left
+invariant-loop-left l = Following l.v l.n l.initial.writer l.left l.writer

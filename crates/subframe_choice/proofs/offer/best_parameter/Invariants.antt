@@ -1,10 +1,6 @@
 -- `best_parameter` meets its contract: a turn for each parameter (Offered). Assumes nothing.
-use Prim.Native.Nat.{◌-◌}
 use Rattle.subframe_choice.proofs.ParameterChoice.{Offered}
 use Rattle.subframe_choice.proofs.offer.best_parameter.Given as goal
 
 abbrev pub invariant-loop-k : goal.invariant-loop-k
 invariant-loop-k l = Offered l.order l.head l.count l.sums l.initial.found l.found l.k
-
-abbrev pub decreases-loop-k : goal.decreases-loop-k
-decreases-loop-k l = 15 - l.k

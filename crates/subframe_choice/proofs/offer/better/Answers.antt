@@ -7,6 +7,6 @@ pub returns-then-other-best : goal.returns-then-other-best
 unfolding fewest_of
 returns-then-other-best c = simp (lt-ltb _ _ c.if-other-best.true)
 
-pub returns : goal.returns
+pub returns-else-other-best : goal.returns-else-other-best
 unfolding fewest_of
-returns c = simp (le-ltb _ _ c.if-other-best.false)
+returns-else-other-best c = simp (le-ltb _ _ c.if-other-best.false)

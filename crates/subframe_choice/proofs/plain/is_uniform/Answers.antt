@@ -9,17 +9,17 @@ use Rattle.subframe_choice.proofs.plain.is_uniform.Goals as goal
 pub loop-i-init : goal.loop-i-init
 loop-i-init c = begin _
 
-pub returns-then-x-first : goal.returns-then-x-first
-returns-then-x-first c =
+pub returns-then-sample-first : goal.returns-then-sample-first
+returns-then-sample-first c =
     one_differs c.loop-i.invariant (omega arith)
-    (λ e. c.if-x-first.true (ap (of_z w64) (c.stored_sample-x.ensures ∙ e ∙ sym c.stored_sample-first.ensures)))
+    (λ e. c.if-sample-first.true (ap (of_z w64) (c.sample.ensures ∙ e ∙ sym c.sample-first.ensures)))
 
 pub loop-i-preserved : goal.loop-i-preserved
 loop-i-preserved c =
     step c.loop-i.invariant (omega arith)
-    (sym c.stored_sample-x.ensures
-    ∙ equal_by_bits (record { sfits = c.stored_sample-x.type_inv }) (record { sfits = c.stored_sample-first.type_inv }) c.if-x-first.false
-    ∙ c.stored_sample-first.ensures)
+    (sym c.sample.ensures
+    ∙ equal_by_bits (record { sfits = c.sample.type_inv }) (record { sfits = c.sample-first.type_inv }) c.if-sample-first.false
+    ∙ c.sample-first.ensures)
 
 pub returns : goal.returns
 returns c = end c.loop-i.invariant (omega arith)

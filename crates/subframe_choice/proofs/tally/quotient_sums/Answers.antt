@@ -21,18 +21,18 @@ folded l e = e ∙ ap fold (to_z-of_z l)
 pub add_quotients-requires : goal.add_quotients-requires
 add_quotients-requires c =
     let i = c.loop-j.invariant in
-    let h : length (fixed_residuals c.args.order (stored_by c.args.source c.args.samples.now)) < 2 ^ 16 = omega arith in
-    let e = c.fixed_residual-r.ensures in
-    (long i h, under i h, folded-small i h e.0 e.1 (folded (record { sfits = c.fixed_residual-r.type_inv }) c.fold-f.ensures))
+    let h : length (fixed_residuals c.args.order (stored_by c.args.source.now)) < 2 ^ 16 = omega arith in
+    let e = c.fixed_residual.ensures in
+    (long i h, under i h, folded-small i h e.0 e.1 (folded (record { sfits = c.fixed_residual.type_inv }) c.fold-folded.ensures))
 
 pub loop-j-preserved : goal.loop-j-preserved
 loop-j-preserved c =
-    let h : length (fixed_residuals c.args.order (stored_by c.args.source c.args.samples.now)) < 2 ^ 16 = omega arith in
-    let e = c.fixed_residual-r.ensures in
-    step-tally c.loop-j.invariant h e.0 e.1 (folded (record { sfits = c.fixed_residual-r.type_inv }) c.fold-f.ensures) (omega arith) c.add_quotients.ensures
+    let h : length (fixed_residuals c.args.order (stored_by c.args.source.now)) < 2 ^ 16 = omega arith in
+    let e = c.fixed_residual.ensures in
+    step-tally c.loop-j.invariant h e.0 e.1 (folded (record { sfits = c.fixed_residual.type_inv }) c.fold-folded.ensures) (omega arith) c.add_quotients.ensures
 
 pub returns : goal.returns
 returns c =
     let i = c.loop-j.invariant in
-    let h : length (fixed_residuals c.args.order (stored_by c.args.source c.args.samples.now)) < 2 ^ 16 = omega arith in
+    let h : length (fixed_residuals c.args.order (stored_by c.args.source.now)) < 2 ^ 16 = omega arith in
     (end-tally i h (omega arith), under i h)

@@ -8,5 +8,5 @@ use Rattle.subframe_samples.proofs.predict.predict_order_1.Goals as goal
 pub returns : goal.returns
 unfolding fixed_coefficients
 returns c =
-    let one = step (begin 1 (stored_by c.args.source c.args.samples.now) c.args.i) (omega arith) (omega arith) (record { sfits = c.add_product.type_inv }) c.add_product.ensures in
+    let one = step (begin 1 (stored_by c.args.source.now) c.args.i) (omega arith) (omega arith) (record { sfits = c.add_product.type_inv }) c.add_product.ensures in
     end one (omega arith)

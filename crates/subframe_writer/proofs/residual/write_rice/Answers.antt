@@ -1,10 +1,10 @@
 -- `write_rice` meets its contract: the quotient, then the remainder. Assumes nothing.
 use Rattle.reading.proofs.NumbersAsBits.{bits-unary}
-use Rattle.bit_writer.proofs.ConsecutiveWrites.{inked_as, wrote-once, inked_then}
+use Rattle.bit_writer.proofs.ConsecutiveWrites.{appends_as, appended_once, append_then}
 use Rattle.subframe_writer.proofs.SubframePieces.{rice_is}
 use Rattle.subframe_writer.proofs.residual.write_rice.Goals as goal
 
 pub returns : goal.returns
 returns c =
-    inked_as _ _ (rice_is c.args.k c.ranges.r c.fold-folded.ensures c.shift_right.ensures)
-    (inked_then (wrote-once (record { bits = bits-unary _ }) c.write_unary-p.ensures) _ c.write_bits.ensures)
+    appends_as (rice_is c.args.k c.ranges.r c.fold-folded.ensures c.shift_right.ensures)
+    (append_then (appended_once (record { bits = bits-unary _ }) c.write_unary.ensures) _ c.write_bits.ensures)

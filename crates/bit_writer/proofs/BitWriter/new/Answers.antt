@@ -1,8 +1,8 @@
 -- A pen at the start of the bytes. Assumes nothing.
 use mathlib.Core.Path.{refl}
 use Rattle.bit_writer.specs.PenWrites.{fresh}
-use Rattle.header_writer.proofs.start.Goals as goal
+use Rattle.bit_writer.proofs.BitWriter.new.Goals as goal
 
 pub returns : goal.returns
 unfolding fresh
-returns c = refl
+returns c = (refl, refl)

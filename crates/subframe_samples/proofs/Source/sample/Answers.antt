@@ -4,9 +4,9 @@ use mathlib.Core.Path.{sym}
 use lib.IntN.{pos}
 use lib.ListN.{get_or-eq_default}
 use Rattle.subframe_samples.specs.Sources.{stored_by}
-use Rattle.subframe_samples.proofs.stored_sample.Goals as goal
+use Rattle.subframe_samples.proofs.Source.sample.Goals as goal
 
-pub returns-then-stored_len-i : goal.returns-then-stored_len-i
-returns-then-stored_len-i c =
+pub returns-else-i-len : goal.returns-else-i-len
+returns-else-i-len c =
     let a = c.args in
-    sym (get_or-eq_default (stored_by a.source a.samples.now) (pos 0) (omega (arith, c.stored_len.ensures)))
+    sym (get_or-eq_default (stored_by a.self.now) (pos 0) (omega (arith, c.len.ensures.0)))
