@@ -1,13 +1,13 @@
 -- The coded number (RFC 9639 section 9.1.5): what the loop over the bytes after the first keeps. Assumes nothing.
 use Prim.Native.Nat.{ℕ, suc, ◌+◌, ◌*◌, ◌-◌, ◌/◌, ◌%◌, ◌^◌, ◌≤◌, ◌<◌}
-use native.Mathlib.Nat.{lt_of_lt_of_le, sub-zero}
+use native.Mathlib.Nat.{sub-zero}
 use native.Mathlib.Omega.{arith}
 use mathlib.Core.Path.{◌≡◌, ap, sym, ◌∙◌}
 use mathlib.Core.Bool.{true}
 use mathlib.Core.List.{List}
 use borrow.Author.Tests.{eq-eqb, ne_eqb}
 use lib.Dec.{eqb}
-use lib.Pow.{pow-add, pow_mono}
+use lib.Pow.{pow-add}
 use Rattle.reading.specs.declared.Place.{Place}
 use Rattle.reading.specs.Readers.{Ask, ◌>>=◌, ◌>>◌, bits, require}
 use Rattle.reading.specs.Places.{got_at, refused_at, inside, run_at}
@@ -61,7 +61,3 @@ module _ (s : List ℕ) (n v : ℕ) (at : Place) where
               small = number-below;
               same = sym (next_follower ∙ check_holds (bits 8) s p (λ x. eqb (x / 64) 2) 5 e rest (eq-eqb _ _ h));
             }
-
-        -- so it fits 64 bits
-        pub number_fits : n ≤ 6 → number * 64 + b % 64 < 2 ^ 43
-        number_fits few = lt_of_lt_of_le number-below (pow_mono {i = 7 + 6 * (i + 1)} {j = 43} (omega arith))

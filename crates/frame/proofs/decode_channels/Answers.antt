@@ -34,9 +34,6 @@ overflow_mul-start c = omega (arith, part-fits c.loop-channel.invariant (wide c.
 pub overflow_add-start : goal.overflow_add-start
 overflow_add-start c = omega (arith, part-fits c.loop-channel.invariant (wide c.args.h c.channel_count-channel-end.ensures c.loop-channel-test.true))
 
-pub width_of-width-requires : goal.width_of-width-requires
-width_of-width-requires c = (c.requires.1, omega (arith, c.channel_count-channel-end.ensures))
-
 pub offset_bounds-out-start : goal.offset_bounds-out-start
 offset_bounds-out-start c = omega (arith, part-fits c.loop-channel.invariant (wide c.args.h c.channel_count-channel-end.ensures c.loop-channel-test.true))
 

@@ -15,8 +15,5 @@ loop-i-preserved c =
     step_right c.loop-i.invariant (omega arith) (record { sfits = search rules }) (record { sfits = search rules }) c.wrapping_sub.result
     (record { sfits = c.wrapping_sub.type_inv }) c.wrapping_sub.ensures
 
-pub shape_of-out : goal.shape_of-out
-shape_of-out c = omega (arith, c.loop-i.invariant.long, c.requires)
-
 pub returns : goal.returns
 returns c = end c.loop-i.invariant (omega arith) ∙ pairs-left-side _ _ c.requires

@@ -15,8 +15,5 @@ loop-i-preserved c =
     step_left c.loop-i.invariant (omega arith) (record { sfits = search rules }) (record { sfits = search rules }) c.wrapping_add.result
     (record { sfits = c.wrapping_add.type_inv }) c.wrapping_add.ensures
 
-pub shape_of-out : goal.shape_of-out
-shape_of-out c = omega (arith, c.loop-i.invariant.long, c.requires)
-
 pub returns : goal.returns
 returns c = end c.loop-i.invariant (omega arith) ∙ pairs-side_right _ _ c.requires

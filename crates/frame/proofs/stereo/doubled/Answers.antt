@@ -7,7 +7,7 @@ use mir.Facts.{to_z-of_z}
 use Rattle.rfc9639.specs.Integers.{low, wrapped, shift_down}
 use Rattle.rfc9639.specs.Stereo.{doubled}
 use Rattle.rfc9639.proofs.Widths.{of_sfits, to_sfits, shift_down-fits}
-use Rattle.rfc9639.proofs.MachineIntegers.{widen_fits, widened}
+use Rattle.rfc9639.proofs.MachineIntegers.{widened}
 use Rattle.frame.proofs.StereoPairs.{bits32, bits64, low_bit, twice-fits, bit-fits, doubled_fits}
 use Rattle.frame.proofs.stereo.doubled.Goals as goal
 
@@ -36,17 +36,11 @@ module _ {mid : ℤ} (fm : SFits w32 mid) where
   twice : bits64 (bits64 (bits32 mid) *ℤ pos 2) ≡ mid *ℤ pos 2
   twice = to_z-of_z {w = w64} twice_mid-fits ∙ ap (λ (a : ℤ). a *ℤ pos 2) (widened fm)
 
-pub overflow_cast-s : goal.overflow_cast-s
-overflow_cast-s c = widen_fits c.ranges.side
-
 pub overflow_mul-low : goal.overflow_mul-low
 overflow_mul-low c = twice_half-fits c.ranges.side (record { sfits = c.shift_down.type_inv }) c.shift_down.ensures
 
 pub overflow_sub-low : goal.overflow_sub-low
 overflow_sub-low c = rest-fits c.ranges.side (record { sfits = c.shift_down.type_inv }) c.shift_down.ensures
-
-pub overflow_cast-mid : goal.overflow_cast-mid
-overflow_cast-mid c = widen_fits c.ranges.mid
 
 pub overflow_mul-mid : goal.overflow_mul-mid
 overflow_mul-mid c = twice_mid-fits c.ranges.mid

@@ -1,12 +1,8 @@
 -- `left_of_mid`: half of a number that fits 32 bits fits them too. Assumes nothing.
 use lib.IntN.{ℤ, ◌+ℤ◌}
 use Rattle.rfc9639.specs.Stereo.{left_of_mid}
-use Rattle.rfc9639.proofs.MachineIntegers.{widen_fits}
 use Rattle.frame.proofs.StereoPairs.{half_of}
 use Rattle.frame.proofs.stereo.left_of_mid.Goals as goal
-
-pub overflow_cast-sum : goal.overflow_cast-sum
-overflow_cast-sum c = widen_fits {z = c.wrapping_add-sum.result} (record { sfits = c.wrapping_add-sum.type_inv })
 
 pub returns : goal.returns
 unfolding left_of_mid

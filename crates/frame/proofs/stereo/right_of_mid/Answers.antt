@@ -1,12 +1,8 @@
 -- `right_of_mid`: half of a number that fits 32 bits fits them too. Assumes nothing.
 use lib.IntN.{ℤ, ◌-ℤ◌}
 use Rattle.rfc9639.specs.Stereo.{right_of_mid}
-use Rattle.rfc9639.proofs.MachineIntegers.{widen_fits}
 use Rattle.frame.proofs.StereoPairs.{half_of}
 use Rattle.frame.proofs.stereo.right_of_mid.Goals as goal
-
-pub overflow_cast-difference : goal.overflow_cast-difference
-overflow_cast-difference c = widen_fits {z = c.wrapping_sub-difference.result} (record { sfits = c.wrapping_sub-difference.type_inv })
 
 pub returns : goal.returns
 unfolding right_of_mid

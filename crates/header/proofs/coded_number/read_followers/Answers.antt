@@ -1,9 +1,8 @@
 -- The bytes after the first, as the definition reads them. Assumes nothing.
-use native.Mathlib.Omega.{arith}
 use mathlib.Core.Path.{refl, sym}
 use Rattle.reading.proofs.ByteRuns.{run_at-out}
 use Rattle.header.proofs.ReaderSteps.{bits_read, exits_by}
-use Rattle.header.proofs.CodedNumber.{begin, end, no_follower, follower_refused, step, number_fits}
+use Rattle.header.proofs.CodedNumber.{begin, end, no_follower, follower_refused, step}
 use Rattle.header.proofs.coded_number.read_followers.Goals as goal
 
 pub returns-then-not-is_inside : goal.returns-then-not-is_inside
@@ -17,12 +16,6 @@ returns-in_err-b c = exits_by _ _ c.from_residual.ensures.1 (no_follower _ _ _ _
 
 pub returns-then-b-ne2 : goal.returns-then-b-ne2
 returns-then-b-ne2 c = sym (follower_refused _ _ _ _ c.loop.invariant c.loop-test.true (bits_read 8 _ _ refl c.in_ok-b.ensures) c.if-b-ne2.true)
-
-pub overflow_mul-number : goal.overflow_mul-number
-overflow_mul-number c = omega (arith, number_fits _ _ _ _ c.loop.invariant c.loop-test.true (bits_read 8 _ _ refl c.in_ok-b.ensures) c.requires.0)
-
-pub overflow_add-number : goal.overflow_add-number
-overflow_add-number c = omega (arith, number_fits _ _ _ _ c.loop.invariant c.loop-test.true (bits_read 8 _ _ refl c.in_ok-b.ensures) c.requires.0)
 
 pub loop-preserved : goal.loop-preserved
 loop-preserved c = step _ _ _ _ c.loop.invariant c.loop-test.true (bits_read 8 _ _ refl c.in_ok-b.ensures) c.if-b-ne2.false
