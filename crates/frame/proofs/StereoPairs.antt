@@ -1,12 +1,12 @@
 -- Stereo pairs: two channels joined in place, a pair of samples a turn, and the functions of a pair. Assumes nothing.
-use Prim.Native.Nat.{ℕ, zero, suc, ◌+◌, ◌-◌, ◌*◌, ◌/◌, ◌^◌, ◌≤◌, ◌<◌}
+use Prim.Native.Nat.{ℕ, suc, ◌+◌, ◌*◌, ◌≤◌, ◌<◌}
 use native.Mathlib.Numerals.{add-one}
 use native.Mathlib.Omega.{arith}
 use mathlib.Core.Path.{◌≡◌, refl, ap, ap₂, sym, ◌∙◌}
 use mathlib.Core.List.{List, ◌∷◌, ◌++◌, append-nil}
-use borrow.Author.Tests.{le-ltb}
-use lib.IntN.{ℤ, pos, negsuc, neg_ℤ-neg_ℤ, ◌+ℤ◌, ◌-ℤ◌, ◌*ℤ◌}
+use lib.IntN.{ℤ, pos, ◌+ℤ◌, ◌*ℤ◌}
 use lib.ListN.{length, get_or, take, drop, set, length-set, length-drop, take-append-drop}
+use lib.Signed.{shr_z}
 use lib.Seq.{append_snoc, drop-cons, drop-length, take_all, take-suc-set, take-set-le, take-set-lt, drop-set-lt, drop-set-add, get_or-take, get_or-drop, get_or-set_other, set-get_or, length-take-le}
 use mir.Syntax.{w32, w64}
 use mir.Val.{SFits, to_z, of_z}
@@ -14,9 +14,9 @@ use mir.Facts.{to_z-of_z}
 use Rattle.rfc9639.specs.declared.ChannelAssignment.TheVariants.{LeftSide, SideRight, MidSide}
 use Rattle.rfc9639.specs.Integers.{low, wrapped, shift_down}
 use Rattle.rfc9639.specs.Stereo.{doubled, left_of, right_of, left_of_mid, right_of_mid, pairwise, left_and_right}
-use Rattle.rfc9639.proofs.Widths.{of_sfits, to_sfits, fits-mono, fits_mul, low_lt, shift_down-fits, wrapped_same}
+use Rattle.rfc9639.proofs.Widths.{of_sfits, to_sfits, fits-mono, fits_mul, low_lt}
 use Rattle.rfc9639.proofs.Lists.{pairwise-first, pairwise-second}
-use Rattle.rfc9639.proofs.MachineIntegers.{widened}
+use Rattle.rfc9639.proofs.MachineIntegers.{shifted}
 use Rattle.number.proofs.ProductSums.{sfits_of_abs, abs_of_fits, abs_mul, add_fits}
 
 -- ---- pairs of which one sample is kept
@@ -151,19 +151,6 @@ module _ {e : ℤ → ℤ → ℤ} {n : ℕ} {l₀ l : List ℤ} {i : ℕ} where
       rw set-get_or at
       (step inv h (bits32 a) (get_or (set l i (bits32 a)) (n + i) (pos 0)) (kept inv h fx fy e a fa p) (get_or-set_other l i (n + i) (bits32 a) (pos 0) (λ d. omega arith)))
 
--- ---- the low bit of a number is what halving and doubling it loses
-
-pos_sub : (a b : ℕ) → b ≤ a → pos a -ℤ pos b ≡ pos (a - b)
-pos_sub a zero h = ap pos (omega arith)
-pos_sub a (suc b) h = rw (le-ltb a (suc b) h)
-
-pub low_bit : (z : ℤ) → z -ℤ shift_down 1 z *ℤ pos 2 ≡ pos (low 1 z)
-unfolding low shift_down
-low_bit (pos n) = pos_sub n (n / 2 ^ 1 * 2) (omega arith) ∙ ap pos (omega arith)
-low_bit (negsuc n) =
-    let m = suc (n / 2 ^ 1) * 2 in
-    rw neg_ℤ-neg_ℤ (rw (le-ltb m (suc n) (omega arith)) (ap pos (omega arith)))
-
 -- ---- the functions of a pair
 
 pub twice-fits : {z : ℤ} → SFits w32 z → SFits w64 (z *ℤ pos 2)
@@ -176,11 +163,9 @@ pub doubled_fits : {mid : ℤ} → SFits w32 mid → (side : ℤ) → SFits w64 
 doubled_fits {mid} f side =
     add_fits (mid *ℤ pos 2) (pos (low 1 side)) (omega (arith, abs_mul mid (pos 2), abs_of_fits (of_sfits f))) (omega (arith, low_lt 1 side))
 
--- half of a sum that fits 32 bits fits them too: keeping 32 bits keeps all of it
-pub half_of : (op : ℤ → ℤ → ℤ) {mid side twice sum down r : ℤ} → SFits w32 mid → SFits w32 side → SFits w32 twice → SFits w32 sum → SFits w64 down → SFits w32 r
-    → twice ≡ doubled (bits32 mid) (bits32 side) → sum ≡ wrapped 32 (op (bits32 twice) (bits32 side)) → down ≡ shift_down 1 (bits64 (bits32 sum)) → r ≡ wrapped 32 (bits64 down)
-    → bits32 r ≡ shift_down 1 (wrapped 32 (op (doubled mid side) side))
-half_of op {sum = sum} fm fs ft fu fd fr et eu ed er =
-    to_z-of_z fr ∙ er ∙ ap (wrapped 32) (to_z-of_z fd ∙ ed ∙ ap (shift_down 1) (widened fu))
-    ∙ wrapped_same 32 (shift_down 1 sum) (omega arith) (shift_down-fits (of_sfits fu) 1)
+-- half of a sum of 32 bits
+pub half_of : (op : ℤ → ℤ → ℤ) {mid side twice sum : ℤ} → SFits w32 mid → SFits w32 side → SFits w32 twice → SFits w32 sum → twice ≡ doubled (bits32 mid) (bits32 side)
+    → sum ≡ wrapped 32 (op (bits32 twice) (bits32 side)) → bits32 (shr_z (bits32 sum) 2) ≡ shift_down 1 (wrapped 32 (op (doubled mid side) side))
+half_of op fm fs ft fu et eu =
+    shifted fu 1
     ∙ ap (shift_down 1) (eu ∙ ap (wrapped 32) (ap₂ op (to_z-of_z ft ∙ et ∙ ap₂ doubled (to_z-of_z fm) (to_z-of_z fs)) (to_z-of_z fs)))

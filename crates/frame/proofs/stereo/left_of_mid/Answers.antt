@@ -1,4 +1,4 @@
--- `left_of_mid`: half of a number that fits 32 bits fits them too. Assumes nothing.
+-- `left_of_mid`: half of a sum of 32 bits. Assumes nothing.
 use lib.IntN.{ℤ, ◌+ℤ◌}
 use Rattle.rfc9639.specs.Stereo.{left_of_mid}
 use Rattle.frame.proofs.StereoPairs.{half_of}
@@ -7,5 +7,4 @@ use Rattle.frame.proofs.stereo.left_of_mid.Goals as goal
 pub returns : goal.returns
 unfolding left_of_mid
 returns c =
-    half_of (λ (a b : ℤ). a +ℤ b) c.ranges.mid c.ranges.side (record { sfits = c.doubled.type_inv }) (record { sfits = c.wrapping_add-sum.type_inv }) (record { sfits = c.shift_down.type_inv })
-    (record { sfits = c.low32.type_inv }) c.doubled.ensures c.wrapping_add-sum.ensures c.shift_down.ensures c.low32.ensures
+    half_of (λ (a b : ℤ). a +ℤ b) c.ranges.mid c.ranges.side (record { sfits = c.doubled.type_inv }) (record { sfits = c.wrapping_add.type_inv }) c.doubled.ensures c.wrapping_add.ensures
