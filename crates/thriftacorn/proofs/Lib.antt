@@ -1,3 +1,2 @@
--- What the exported functions report.
-pub mod ReportedAnswers
+-- Each exported function has one outcome.
 pub mod Outcome

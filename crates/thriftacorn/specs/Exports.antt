@@ -1,14 +1,11 @@
 -- What each exported function promises: the number that it returns, and the value that each reference points to
 -- afterwards, are those of the definition. Each predicate is named after its function. It takes the arguments first,
 -- then the results; `refusal` is the number returned, 0 if nothing was refused.
-use Rattle.std.specs.Prelude.{ℕ, ◌+◌, ◌≡◌, List, eqb, ℤ, drop, if◌then◌else◌}
+use Rattle.std.specs.Prelude.{ℕ, ◌+◌, ◌≡◌, Option, Some, None, List, eqb, ℤ, drop, if◌then◌else◌}
 use Rattle.reading.specs.Places.{At, got_at, refused_at, short_at}
-use Rattle.rfc9639.specs.declared.SampleRate.{SampleRate}
 use Rattle.rfc9639.specs.declared.Settings.{Settings}
-use Rattle.rfc9639.specs.declared.StreamBlock.{StreamBlock}
 use Rattle.rfc9639.specs.declared.StreamInfo.{StreamInfo}
 use Rattle.rfc9639.specs.declared.StreamRecord.{StreamRecord}
-use Rattle.rfc9639.specs.Stream.{first_known, first_number}
 use Rattle.rfc9639.specs.Read.{Report, Outcome, read}
 use Rattle.rfc9639.specs.FrameByFrame.{stream_settings}
 use Rattle.rfc9639.specs.StreamHeader.{stream_header_of}
@@ -17,47 +14,37 @@ use Rattle.frame_limits.specs.Longest.{longest_of}
 use Rattle.block.specs.BlockAccess.{channel_of, sample_of, pair_of}
 use Rattle.block.specs.Reports.{ChannelReport, SampleReport, PairReport, channel_report, sample_report, pair_report}
 
--- ---- the stream's block in plain numbers: a flag, 0 or 1, and a size that is 0 where the flag is
+-- ---- what may be unknown, in two plain numbers: 1 and the number, or 0 and 0
 
-abbrev pub block_known : StreamBlock → ℕ
-block_known StreamBlock.Unknown = 0
-block_known (StreamBlock.Known size) = 1
+abbrev pub flag_of : Option ℕ → ℕ
+flag_of None = 0
+flag_of (Some n) = 1
 
-abbrev pub block_number : StreamBlock → ℕ
-block_number StreamBlock.Unknown = 0
-block_number (StreamBlock.Known size) = size
+abbrev pub value_of : Option ℕ → ℕ
+value_of None = 0
+value_of (Some n) = n
 
--- the other way, for any two numbers: where the flag is 0 the size is passed over; a flag that is neither 0 nor 1 gives
--- a size that no stream has
-unfoldable pub block_of : ℕ → ℕ → StreamBlock
-block_of given size =
-    if eqb given 0 then StreamBlock.Unknown
-    else if eqb given 1 then StreamBlock.Known size
-    else StreamBlock.Known 0
+-- The other way, for any flag: where it is 0 the value is passed over; a flag that is neither 0 nor 1 gives what no
+-- stream has.
+unfoldable pub given_of : {A : Type 0} → ℕ → A → A → Option A
+given_of flag value impossible =
+    if eqb flag 0 then None
+    else if eqb flag 1 then Some value
+    else Some impossible
 
--- likewise a flag, the bits and the rate give a stream's record
-unfoldable pub record_of : ℕ → ℕ → ℕ → StreamRecord
-record_of given bits rate =
-    if eqb given 0 then StreamRecord.Unknown
-    else if eqb given 1 then StreamRecord.Known bits rate
-    else StreamRecord.Known 0 0
+-- no stream has blocks of no samples, nor samples of no bits
+unfoldable pub block_of : ℕ → ℕ → Option ℕ
+block_of given size = given_of given size 0
+
+unfoldable pub record_of : ℕ → ℕ → ℕ → Option StreamRecord
+record_of given bits rate = given_of given (record { bits = bits; rate = rate }) (record { bits = 0; rate = 0 })
 
 -- the settings of version 2, which has no record, and those of version 3
 unfoldable pub settings_of : ℕ → ℕ → Settings
-settings_of given size = record { block = block_of given size; stream = StreamRecord.Unknown }
+settings_of given size = record { block = block_of given size; stream = None }
 
 unfoldable pub settings_with : ℕ → ℕ → ℕ → ℕ → ℕ → Settings
 settings_with given size streamed bits rate = record { block = block_of given size; stream = record_of streamed bits rate }
-
--- ---- the rate in plain numbers: whether it is known, 1 or 0, and the rate, or 0 if it is unknown
-
-abbrev pub rate_known : SampleRate → ℕ
-rate_known SampleRate.Unknown = 0
-rate_known (SampleRate.Known n) = 1
-
-abbrev pub rate_number : SampleRate → ℕ
-rate_number SampleRate.Unknown = 0
-rate_number (SampleRate.Known n) = n
 
 -- ---- reading
 
@@ -74,7 +61,7 @@ abbrev pub numbers_of : Report → ReadNumbers
 numbers_of q = record {
   refusal = q.number;
   consumed = q.consumed;
-  first = first_number q.first;
+  first = value_of q.first;
   channels = q.channels;
   bits = q.bits;
   size = q.size;
@@ -99,7 +86,7 @@ pub record ReadNextV1 (bytes : List ℕ) (place : ℕ) (samples : List ℤ) (ref
 
 pub record ReadFrameV2 (bytes : List ℕ) (given block : ℕ) (samples : List ℤ) (refusal consumed known first channels bits size : ℕ) (left : List ℤ) : Type 0 where
   pub answer : Returned (read (settings_of given block) bytes samples) refusal consumed first channels bits size left
-  pub flag : known ≡ first_known (read (settings_of given block) bytes samples).report.first
+  pub flag : known ≡ flag_of (read (settings_of given block) bytes samples).report.first
 
 pub record ReadNextV2 (bytes : List ℕ) (place given block : ℕ) (samples : List ℤ) (refusal next consumed known first channels bits size : ℕ) (left : List ℤ) : Type 0 where
   pub frame : ReadFrameV2 (drop place bytes) given block samples refusal consumed known first channels bits size left
@@ -107,17 +94,17 @@ pub record ReadNextV2 (bytes : List ℕ) (place given block : ℕ) (samples : Li
 
 pub record ReadFrameV3 (bytes : List ℕ) (set : Settings) (samples : List ℤ) (refusal consumed known first rated rate channels bits size : ℕ) (left : List ℤ) : Type 0 where
   pub answer : Returned (read set bytes samples) refusal consumed first channels bits size left
-  pub flag : known ≡ first_known (read set bytes samples).report.first
-  pub rate-flag : rated ≡ rate_known (read set bytes samples).report.rate
-  pub hertz : rate ≡ rate_number (read set bytes samples).report.rate
+  pub flag : known ≡ flag_of (read set bytes samples).report.first
+  pub rate-flag : rated ≡ flag_of (read set bytes samples).report.rate
+  pub hertz : rate ≡ value_of (read set bytes samples).report.rate
 
 pub record ReadNextV3 (bytes : List ℕ) (place : ℕ) (set : Settings) (samples : List ℤ) (refusal next consumed known first rated rate channels bits size : ℕ) (left : List ℤ) : Type 0 where
   pub frame : ReadFrameV3 (drop place bytes) set samples refusal consumed known first rated rate channels bits size left
   pub moved : next ≡ place + consumed
 
 pub record StreamBlockV1 (bytes : List ℕ) (known block : ℕ) : Type 0 where
-  pub flag : known ≡ block_known (stream_settings bytes).block
-  pub size : block ≡ block_number (stream_settings bytes).block
+  pub flag : known ≡ flag_of (stream_settings bytes).block
+  pub size : block ≡ value_of (stream_settings bytes).block
 
 -- ---- the stream header
 

@@ -1,3 +1,2 @@
 -- What the exported functions promise.
 pub mod Exports
-pub mod Private

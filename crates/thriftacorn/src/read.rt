@@ -1,53 +1,21 @@
 // Reading frames, for other languages: the frame at the start of the bytes, or the one at a place, which then moves past
 // it. The functions of version 3 take what is known of the stream, and report the rate. Those of version 2 take the size
 // of its blocks alone. Those of version 1 take that size from the frame that they read, so they say of a first sample
-// what document 01 says.
+// what document 01 says. All of them are `read_at`, with other settings, or without a part of what it reports.
 ghost use Rattle.std.specs.Prelude.{◌≡◌, drop};
-ghost use Rattle.rfc9639.specs.Stream.{first_known, first_number};
 ghost use Rattle.rfc9639.specs.FrameByFrame.{stream_settings};
-ghost use Rattle.thriftacorn.specs.Exports.{block_of, record_of, settings_of, settings_with, rate_known, rate_number, ReadFrameV1, ReadFrameV2, ReadFrameV3, ReadNextV1, ReadNextV2, ReadNextV3, StreamBlockV1};
-ghost use Rattle.thriftacorn.specs.Private.{ReportedAs};
+ghost use Rattle.thriftacorn.specs.Exports.{given_of, settings_with, ReadFrameV1, ReadFrameV2, ReadFrameV3, ReadNextV1, ReadNextV2, ReadNextV3, StreamBlockV1};
 
-use frame::ReadAnswer;
-use rfc9639::{FirstSample, SampleRate, Settings, StreamBlock, StreamRecord};
+use rfc9639::{Settings, StreamRecord};
 
-// 1 if the number of a first sample is known, else 0.
-fn first_known(f: FirstSample) -> u32
-    ensures { result ≡ first_known f }
-{
-    if let FirstSample::Known(_) = f { 1 } else { 0 }
-}
-
-// The number of a first sample, 0 if it is unknown.
-fn first_number(f: FirstSample) -> u64
-    ensures { result ≡ first_number f }
-{
-    match f {
-        FirstSample::Unknown => 0,
-        FirstSample::Known(n) => n,
-    }
-}
-
-// 1 if the rate is known, else 0.
-fn rate_known(r: SampleRate) -> u32
-    ensures { result ≡ rate_known r }
-{
-    if let SampleRate::Known(_) = r { 1 } else { 0 }
-}
-
-// The rate, 0 if it is unknown.
-fn rate_number(r: SampleRate) -> u32
-    ensures { result ≡ rate_number r }
-{
-    match r {
-        SampleRate::Unknown => 0,
-        SampleRate::Known(n) => n,
-    }
-}
-
-// Stores what an answer reports through the references, and returns its number.
-fn store_report(
-    answer: ReadAnswer,
+// Reads the frame at a place of the bytes, moves the place past it, and stores what is reported through the references.
+// A refusal leaves the place as it was.
+#[tactic(auto, unfolding(rfc9639::specs::Read::refusal))]
+fn read_at(
+    bytes: &[u8],
+    place: &mut usize,
+    set: Settings,
+    samples: &mut [i32],
     consumed: &mut usize,
     known: &mut u32,
     first: &mut u64,
@@ -57,24 +25,24 @@ fn store_report(
     bits: &mut u32,
     size: &mut usize,
 ) -> u8
-    ensures { ReportedAs answer result consumed.new known.new first.new rated.new rate.new
-        channels.new bits.new size.new }
+    ensures { ReadNextV3 bytes.now place.old set samples.old result place.new consumed.new
+        known.new first.new rated.new rate.new channels.new bits.new size.new samples.new }
 {
-    match answer {
-        ReadAnswer::Frame(f) => {
-            let number = f.first;
-            let hertz = f.rate;
+    let step = walk::read_next(bytes, *place, set, samples);
+    *place = step.place;
+    match step.answer {
+        Ok(f) => {
             *consumed = f.consumed;
-            *known = first_known(number);
-            *first = first_number(number);
-            *rated = rate_known(hertz);
-            *rate = rate_number(hertz);
+            *known = u32::from(f.first.is_some());
+            *first = f.first.unwrap_or(0);
+            *rated = u32::from(f.rate.is_some());
+            *rate = f.rate.unwrap_or(0);
             *channels = f.channels;
             *bits = f.bits;
             *size = f.size;
             0
         }
-        ReadAnswer::Refused(e) => {
+        Err(e) => {
             *consumed = 0;
             *known = 0;
             *first = 0;
@@ -83,51 +51,36 @@ fn store_report(
             *channels = 0;
             *bits = 0;
             *size = 0;
-            error::number_of(e)
+            u8::from(e)
         }
     }
 }
 
-// The size of the stream's blocks that a flag and a size give. A flag other than 0 and 1 gives a size that no stream
-// has, so that reading refuses it.
-fn block_of(given: u32, size: usize) -> StreamBlock
-    ensures { result ≡ block_of given size }
+// What a flag gives: nothing where it is 0, and `value` where it is 1. For another flag it is what no stream has, so
+// that reading refuses it.
+#[tactic(auto, unfolding(crate::specs::Exports::given_of))]
+fn given_of<T: Copy>(flag: u32, value: T, impossible: T) -> Option<T>
+    ensures { result ≡ given_of flag value impossible }
 {
-    match given {
-        0 => StreamBlock::Unknown,
-        1 => StreamBlock::Known(size),
-        _ => StreamBlock::Known(0),
+    match flag {
+        0 => None,
+        1 => Some(value),
+        _ => Some(impossible),
     }
 }
 
-// The stream's record that a flag, the bits and the rate give. A flag other than 0 and 1 gives bits that no stream has.
-fn record_of(given: u32, bits: u32, rate: u32) -> StreamRecord
-    ensures { result ≡ record_of given bits rate }
-{
-    match given {
-        0 => StreamRecord::Unknown,
-        1 => StreamRecord::Known(bits, rate),
-        _ => StreamRecord::Known(0, 0),
-    }
-}
-
-// The settings without a record.
-fn settings_of(given: u32, size: usize) -> Settings
-    ensures { result ≡ settings_of given size }
+// The settings that two flags give: with or without the size of the stream's blocks, and its record.
+#[tactic(auto, unfolding(crate::specs::Exports::settings_with, crate::specs::Exports::block_of, crate::specs::Exports::record_of))]
+fn settings_with(given: u32, size: usize, streamed: u32, bits: u32, rate: u32) -> Settings
+    ensures { result ≡ settings_with given size streamed bits rate }
 {
     Settings {
-        block: block_of(given, size),
-        stream: StreamRecord::Unknown,
-    }
-}
-
-// The settings with both.
-fn settings_with(given: u32, size: usize, streamed: u32, depth: u32, hertz: u32) -> Settings
-    ensures { result ≡ settings_with given size streamed depth hertz }
-{
-    Settings {
-        block: block_of(given, size),
-        stream: record_of(streamed, depth, hertz),
+        block: given_of(given, size, 0),
+        stream: given_of(
+            streamed,
+            StreamRecord { bits, rate },
+            StreamRecord { bits: 0, rate: 0 },
+        ),
     }
 }
 
@@ -135,14 +88,7 @@ fn settings_with(given: u32, size: usize, streamed: u32, depth: u32, hertz: u32)
 fn settings_at(bytes: &[u8], place: usize) -> Settings
     ensures { result ≡ stream_settings (drop place bytes.now) }
 {
-    if place < bytes.len() {
-        walk::stream_settings(&bytes[place..])
-    } else {
-        Settings {
-            block: StreamBlock::Unknown,
-            stream: StreamRecord::Unknown,
-        }
-    }
+    walk::stream_settings(&bytes[place.min(bytes.len())..])
 }
 
 // Reads the frame at the start of the bytes. The size of the stream's blocks is the frame's own.
@@ -159,13 +105,8 @@ pub extern "C" fn thriftacorn_read_frame_v1(
     ensures { ReadFrameV1 bytes.now samples.old result consumed.new first.new
         channels.new bits.new size.new samples.new }
 {
-    let own = walk::stream_settings(bytes);
-    let answer = frame::read_frame(bytes, own, samples);
-    let mut known: u32 = 0;
-    let mut rated: u32 = 0;
-    let mut rate: u32 = 0;
-    store_report(
-        answer, consumed, &mut known, first, &mut rated, &mut rate, channels, bits, size,
+    thriftacorn_read_next_v1(
+        bytes, &mut 0, samples, consumed, first, channels, bits, size,
     )
 }
 
@@ -186,14 +127,8 @@ pub extern "C" fn thriftacorn_read_next_v1(
         first.new channels.new bits.new size.new samples.new }
 {
     let own = settings_at(bytes, *place);
-    let step = walk::read_next(bytes, *place, own, samples);
-    *place = step.place;
-    let next = step.answer;
-    let mut known: u32 = 0;
-    let mut rated: u32 = 0;
-    let mut rate: u32 = 0;
-    store_report(
-        next, consumed, &mut known, first, &mut rated, &mut rate, channels, bits, size,
+    read_at(
+        bytes, place, own, samples, consumed, &mut 0, first, &mut 0, &mut 0, channels, bits, size,
     )
 }
 
@@ -214,17 +149,14 @@ pub extern "C" fn thriftacorn_read_frame_v2(
     ensures { ReadFrameV2 bytes.now given block samples.old result consumed.new known.new
         first.new channels.new bits.new size.new samples.new }
 {
-    let set = settings_of(given, block);
-    let answer = frame::read_frame(bytes, set, samples);
-    let mut rated: u32 = 0;
-    let mut rate: u32 = 0;
-    store_report(
-        answer, consumed, known, first, &mut rated, &mut rate, channels, bits, size,
+    thriftacorn_read_next_v2(
+        bytes, &mut 0, given, block, samples, consumed, known, first, channels, bits, size,
     )
 }
 
 // Reads the frame at a place of the bytes with such settings, and moves the place past it. A refusal leaves the place
 // as it was.
+#[tactic(auto, unfolding(crate::specs::Exports::settings_of, crate::specs::Exports::settings_with, crate::specs::Exports::record_of, crate::specs::Exports::given_of))]
 #[unsafe(no_mangle)]
 pub extern "C" fn thriftacorn_read_next_v2(
     bytes: &[u8],
@@ -243,14 +175,9 @@ pub extern "C" fn thriftacorn_read_next_v2(
         consumed.new known.new first.new channels.new bits.new size.new
         samples.new }
 {
-    let settings = settings_of(given, block);
-    let moved = walk::read_next(bytes, *place, settings, samples);
-    *place = moved.place;
-    let next = moved.answer;
-    let mut rated: u32 = 0;
-    let mut rate: u32 = 0;
-    store_report(
-        next, consumed, known, first, &mut rated, &mut rate, channels, bits, size,
+    let set = settings_with(given, block, 0, 0, 0);
+    read_at(
+        bytes, place, set, samples, consumed, known, first, &mut 0, &mut 0, channels, bits, size,
     )
 }
 
@@ -278,10 +205,9 @@ pub extern "C" fn thriftacorn_read_frame_v3(
         known.new first.new rated.new rate.new channels.new bits.new
         size.new samples.new }
 {
-    let set = settings_with(given, block, streamed, depth, hertz);
-    let found = frame::read_frame(bytes, set, samples);
-    store_report(
-        found, consumed, known, first, rated, rate, channels, bits, size,
+    thriftacorn_read_next_v3(
+        bytes, &mut 0, given, block, streamed, depth, hertz, samples, consumed, known, first,
+        rated, rate, channels, bits, size,
     )
 }
 
@@ -310,12 +236,9 @@ pub extern "C" fn thriftacorn_read_next_v3(
         place.new consumed.new known.new first.new rated.new rate.new
         channels.new bits.new size.new samples.new }
 {
-    let told = settings_with(given, block, streamed, depth, hertz);
-    let gone = walk::read_next(bytes, *place, told, samples);
-    *place = gone.place;
-    let read = gone.answer;
-    store_report(
-        read, consumed, known, first, rated, rate, channels, bits, size,
+    let set = settings_with(given, block, streamed, depth, hertz);
+    read_at(
+        bytes, place, set, samples, consumed, known, first, rated, rate, channels, bits, size,
     )
 }
 
@@ -325,16 +248,7 @@ pub extern "C" fn thriftacorn_read_next_v3(
 pub extern "C" fn thriftacorn_stream_block_v1(bytes: &[u8], block: &mut usize) -> u32
     ensures { StreamBlockV1 bytes.now result block.new }
 {
-    let stream = walk::stream_settings(bytes);
-    let known = stream.block;
-    match known {
-        StreamBlock::Known(size) => {
-            *block = size;
-            1
-        }
-        StreamBlock::Unknown => {
-            *block = 0;
-            0
-        }
-    }
+    let size = walk::stream_settings(bytes).block;
+    *block = size.unwrap_or(0);
+    u32::from(size.is_some())
 }

@@ -2,7 +2,7 @@
 ghost use Rattle.std.specs.Prelude.{length};
 ghost use Rattle.thriftacorn.specs.Exports.{ChannelV1, SampleV1, PairV1};
 
-use block::{Block, ChannelAt, PairAt, SampleAt};
+use block::Block;
 
 // Where a channel's samples start and where they end.
 #[unsafe(no_mangle)]
@@ -16,18 +16,16 @@ pub extern "C" fn thriftacorn_channel_v1(
 ) -> u8
     ensures { ChannelV1 (length samples.now) channels size channel result start.new end.new }
 {
-    let b = Block { channels, size };
-    let answer = block::channel(samples, b, channel);
-    match answer {
-        ChannelAt::Range(from, to) => {
+    match block::channel(samples, Block { channels, size }, channel) {
+        Ok((from, to)) => {
             *start = from;
             *end = to;
             0
         }
-        ChannelAt::Refused(e) => {
+        Err(e) => {
             *start = 0;
             *end = 0;
-            error::number_of(e)
+            u8::from(e)
         }
     }
 }
@@ -44,16 +42,14 @@ pub extern "C" fn thriftacorn_sample_v1(
 ) -> u8
     ensures { SampleV1 samples.now channels size channel index result value.new }
 {
-    let b = Block { channels, size };
-    let answer = block::sample(samples, b, channel, index);
-    match answer {
-        SampleAt::Value(x) => {
+    match block::sample(samples, Block { channels, size }, channel, index) {
+        Ok(x) => {
             *value = x;
             0
         }
-        SampleAt::Refused(e) => {
+        Err(e) => {
             *value = 0;
-            error::number_of(e)
+            u8::from(e)
         }
     }
 }
@@ -70,18 +66,16 @@ pub extern "C" fn thriftacorn_pair_v1(
 ) -> u8
     ensures { PairV1 samples.now channels size index result left.new right.new }
 {
-    let b = Block { channels, size };
-    let answer = block::pair(samples, b, index);
-    match answer {
-        PairAt::Values(x, y) => {
+    match block::pair(samples, Block { channels, size }, index) {
+        Ok((x, y)) => {
             *left = x;
             *right = y;
             0
         }
-        PairAt::Refused(e) => {
+        Err(e) => {
             *left = 0;
             *right = 0;
-            error::number_of(e)
+            u8::from(e)
         }
     }
 }

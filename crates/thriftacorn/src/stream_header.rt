@@ -1,8 +1,6 @@
 // Reading the stream header, for other languages.
 ghost use Rattle.thriftacorn.specs.Exports.{StreamHeaderV1};
 
-use stream::StreamRead;
-
 // Reads the stream header at the start of the bytes. Reported are how many bytes it takes, the samples of the smallest
 // and of the largest block, the bytes of the shortest and of the longest frame, the rate, the channels, the bits, the
 // samples of a channel in all, and the first and the last eight bytes of the MD5, each as a number whose first byte is
@@ -26,9 +24,8 @@ pub extern "C" fn thriftacorn_read_stream_header_v1(
         shortest.new longest.new rate.new channels.new bits.new samples.new
         high.new low.new }
 {
-    let answer = stream::read_stream_header(bytes);
-    match answer {
-        StreamRead::Header(info, end) => {
+    match stream::read_stream_header(bytes) {
+        Ok((info, end)) => {
             *consumed = end;
             *smallest = info.blocks.smallest;
             *largest = info.blocks.largest;
@@ -42,7 +39,7 @@ pub extern "C" fn thriftacorn_read_stream_header_v1(
             *low = info.md5.low;
             0
         }
-        StreamRead::Refused(e) => {
+        Err(e) => {
             *consumed = 0;
             *smallest = 0;
             *largest = 0;
@@ -54,7 +51,7 @@ pub extern "C" fn thriftacorn_read_stream_header_v1(
             *samples = 0;
             *high = 0;
             *low = 0;
-            error::number_of(e)
+            u8::from(e)
         }
     }
 }

@@ -2,6 +2,7 @@
 ghost use Rattle.thriftacorn.specs.Exports.{WriteFrameV1, LongestV1};
 
 // Writes one frame.
+#[tactic(auto, unfolding(rfc9639::specs::Write::unwritten))]
 #[unsafe(no_mangle)]
 pub extern "C" fn thriftacorn_write_frame_v1(
     samples: &[i32],
@@ -15,15 +16,14 @@ pub extern "C" fn thriftacorn_write_frame_v1(
 ) -> u8
     ensures { WriteFrameV1 channels bits blocking number size samples.now out.old result length.new out.new }
 {
-    let answer = frame_writer::write_frame(samples, channels, bits, blocking, number, size, out);
-    match answer {
-        frame_writer::WriteAnswer::Frame(n) => {
+    match frame_writer::write_frame(samples, channels, bits, blocking, number, size, out) {
+        Ok(n) => {
             *length = n;
             0
         }
-        frame_writer::WriteAnswer::Refused(e) => {
+        Err(e) => {
             *length = 0;
-            error::number_of(e)
+            u8::from(e)
         }
     }
 }
