@@ -19,13 +19,6 @@ fn write_head(number: u8, length: u64) {
     io::write_all(STDOUT, &four_bytes(length));
 }
 
-// The number in the four bytes from a place on.
-fn number_at(input: &[u8; 65556], at: usize) -> usize
-    requires { at ≤ 65552 }
-{
-    number_from_bytes(input[at], input[at + 1], input[at + 2], input[at + 3]) as usize
-}
-
 fn decode(bytes: &[u8], samples: &mut [i32])
     requires { 4 * length samples.old ≤ length bytes.now }
 {
@@ -40,8 +33,8 @@ fn run(input: &[u8; 65556], n: usize, samples: &mut [i32; 16384], out: &mut [u8;
     let number = u64::from_le_bytes([
         input[3], input[4], input[5], input[6], input[7], input[8], input[9], input[10],
     ]);
-    let size = number_at(input, 11);
-    let room = number_at(input, 15);
+    let size = number_from_bytes(input[11], input[12], input[13], input[14]) as usize;
+    let room = number_from_bytes(input[15], input[16], input[17], input[18]) as usize;
     if out.len() < room {
         write_head(11, 0);
         return;
