@@ -1,5 +1,5 @@
 // The functions of `number` and `signed` on claxon's test data and at the boundaries of each.
-use crate::show::{equals, mark, show_answer, show_number, show_value, text, value32, wide};
+use crate::show::{equals, mark, show_answer, show_number, show_value, text, value32};
 use number::{
     lesser, low32, saturating_sub, shift_down, shift_right, shift_up, wrapping_add, wrapping_sub,
 };
@@ -19,7 +19,7 @@ fn rice(n: u32) {
     equals();
     let r = unfold(n);
     value32(r);
-    show_number(b' ', fold(wide(r)));
+    show_number(b' ', fold(i64::from(r)));
     mark(b'\n');
 }
 
@@ -35,7 +35,7 @@ fn low(x: i64, width: u32) {
 fn keep(x: i64) {
     text(b"low32");
     show_value(x);
-    show_answer(wide(low32(x)));
+    show_answer(i64::from(low32(x)));
 }
 
 fn sums(a: i32, b: i32) {
@@ -52,7 +52,7 @@ fn up(x: i32, k: u32) {
     text(b"shift_up");
     value32(x);
     show_number(b' ', k as u64);
-    show_answer(wide(shift_up(x, k)));
+    show_answer(i64::from(shift_up(x, k)));
 }
 
 fn down(x: i64, k: u32) {

@@ -34,13 +34,8 @@ pub fn show_value(x: i64) {
     }
 }
 
-// The same number, wider.
-pub fn wide(x: i32) -> i64 {
-    i64::from(x)
-}
-
 pub fn value32(x: i32) {
-    show_value(wide(x));
+    show_value(i64::from(x));
 }
 
 pub fn values32(xs: &[i32]) {
