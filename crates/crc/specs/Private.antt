@@ -12,11 +12,11 @@ sums_from w poly i (suc n) = crc_bits w poly 0 (bits_of_byte i) ∷ sums_from w 
 unfoldable pub byte_sums : ℕ → ℕ → List ℕ
 byte_sums w poly = sums_from w poly 0 256
 
--- the table of the bytes' sums, and n more, each of which is the one before it after one more zero byte
+-- a table, and n more, each of which is the one before it after one more zero byte
 unfoldable pub tables_from : ℕ → ℕ → ℕ → List ℕ → List (List ℕ)
 tables_from w poly zero t = t ∷ []
 tables_from w poly (suc n) t = t ∷ tables_from w poly n (map (λ (r : ℕ). crc_bits w poly r (bits_of_byte 0)) t)
 
--- eight tables
+-- eight tables, of which the first has the bytes' sums
 unfoldable pub EightTables : ℕ → ℕ → List (List ℕ) → Type 0
 EightTables w poly t = t ≡ tables_from w poly 7 (byte_sums w poly)
