@@ -1,15 +1,17 @@
 -- Fixed predictions as the code adds them up: each product and sum is exact at 64 bits. Assumes nothing.
-use Prim.Native.Nat.{ℕ, suc, ◌+◌, ◌-◌, ◌*◌, ◌^◌, ◌≤◌, ◌<◌}
+use Prim.Native.Nat.{ℕ, zero, suc, ◌+◌, ◌-◌, ◌*◌, ◌^◌, ◌≤◌, ◌<◌}
 use native.Mathlib.Nat.{mul-le-mul, sub-zero}
+use native.Mathlib.Numerals.{add-one}
 use native.Mathlib.Omega.{arith}
 use mathlib.Core.Path.{◌≡◌, refl, ap, ap₂, sym, ◌∙◌, subst}
 use mathlib.Core.List.{List, [], ◌∷◌, reverse}
-use borrow.Author.Tests.{ne_eqb}
 use lib.IntN.{ℤ, pos, neg_ℤ, nat_abs, ◌+ℤ◌, ◌-ℤ◌, ◌*ℤ◌}
-use lib.ListN.{length, get_or, take}
+use lib.ListN.{length, get_or, take, drop, drop_of_length-le}
+use lib.Seq.{drop-cons}
 use mir.Syntax.{w64}
 use mir.Val.{SFits}
 use mir.Facts.{to_z-of_z}
+use Rattle.number.specs.Private.{Small}
 use Rattle.rfc9639.specs.Prediction.{dot, fixed_coefficients}
 use Rattle.signed.proofs.SignCases.{bits64}
 use Rattle.number.proofs.ProductSums.{sfits_of_abs, abs_add, abs_mul, abs_neg}
@@ -42,33 +44,39 @@ module _ {sum c x : ℤ} (fs : SFits w64 sum) (fc : SFits w64 c) (fx : SFits w64
       let e = to_z-of_z product-sum_fits ∙ ap₂ (λ (a b : ℤ). a +ℤ b) (to_z-of_z fs) product in
       (e ∙ ap (λ (z : ℤ). sum +ℤ c *ℤ z) d, rw e abs_sum)
 
--- ---- the prediction of sample i: k products are added up in acc, and those of the coefficients `rest` are to come
+-- ---- the prediction of sample i: k products are added up in acc
 
-pub record PredictionSoFar (order : ℕ) (rest xs : List ℤ) (i k : ℕ) (acc : ℤ) : Type 0 where
-  pub same : predicted_at order xs i ≡ dot acc rest (reverse (take (i - k) xs))
+-- each coefficient is small
+pub small_at : (cs : List ℤ) → Small 7 cs → (k : ℕ) → nat_abs (get_or cs k (pos 0)) ≤ 6
+small_at [] h k = omega arith
+small_at (c ∷ cs) h zero = omega (arith, h.0)
+small_at (c ∷ cs) h (suc k) = small_at cs h.1 k
+
+pub record PredictionSoFar (cs xs : List ℤ) (i k : ℕ) (acc : ℤ) : Type 0 where
+  pub same : dot (pos 0) cs (reverse (take i xs)) ≡ dot acc (drop k cs) (reverse (take (i - k) xs))
   pub bound : nat_abs acc ≤ k * (6 * 2 ^ 32)
 
-pub begin : (order : ℕ) (xs : List ℤ) (i : ℕ) → PredictionSoFar order (fixed_coefficients order) xs i 0 (pos 0)
-unfolding predicted_at
-begin order xs i = record { same = ap (λ n. dot (pos 0) (fixed_coefficients order) (reverse (take n xs))) (sym (sub-zero i)); bound = omega arith }
+pub begin : (cs xs : List ℤ) (i : ℕ) → PredictionSoFar cs xs i 0 (pos 0)
+begin cs xs i = record { same = ap (λ n. dot (pos 0) cs (reverse (take n xs))) (sym (sub-zero i)); bound = omega arith }
 
-module _ {order : ℕ} {xs : List ℤ} {i k : ℕ} {acc : ℤ} where
-  pub step : {c : ℤ} {rest : List ℤ} → PredictionSoFar order (c ∷ rest) xs i k acc → k < i → i ≤ length xs → {r : ℤ} → SFits w64 r
-      → (r ≡ acc +ℤ c *ℤ get_or xs (i - suc k) (pos 0)) × (nat_abs r ≤ nat_abs acc + 6 * 2 ^ 32) → PredictionSoFar order rest xs i (suc k) (bits64 r)
+module _ {cs xs : List ℤ} {i k : ℕ} {acc : ℤ} (inv : PredictionSoFar cs xs i k acc) where
+  pub room : k ≤ 3 → nat_abs acc ≤ 18 * 2 ^ 32
+  room h = omega (arith, inv.bound)
+
+  pub step : k < length cs → k < i → i ≤ length xs → {r c : ℤ} {j : ℕ} → c ≡ get_or cs k (pos 0) → j ≡ i - suc k
+      → (r ≡ acc +ℤ c *ℤ get_or xs j (pos 0)) × (nat_abs r ≤ nat_abs acc + 6 * 2 ^ 32) → PredictionSoFar cs xs i (k + 1) r
   unfolding dot
-  step {c} {rest} inv h l f e = record {
+  step n h l {r} f g e = record {
     same =
-        inv.same ∙ ap (dot acc (c ∷ rest)) (reverse-take-latest xs i k h l)
-        ∙ ap (λ (a : ℤ). dot a rest (reverse (take (i - suc k) xs))) (sym e.0 ∙ sym (to_z-of_z f));
-    bound = rw (to_z-of_z f) (omega (arith, inv.bound, e.1));
+        inv.same ∙ ap₂ (dot acc) (drop-cons cs k (pos 0) n) (reverse-take-latest xs i k h l)
+        ∙ ap (λ (a : ℤ). dot a (drop (suc k) cs) (reverse (take (i - suc k) xs))) (sym (e.0 ∙ ap₂ (λ (a : ℤ) (m : ℕ). acc +ℤ a *ℤ get_or xs m (pos 0)) f g))
+        ∙ ap (λ m. dot r (drop m cs) (reverse (take (i - m) xs))) (sym (add-one k));
+    bound = omega (arith, inv.bound, e.1);
   }
 
-  pub room : {rest : List ℤ} → PredictionSoFar order rest xs i k acc → k ≤ 3 → nat_abs acc ≤ 18 * 2 ^ 32
-  room inv h = omega (arith, inv.bound)
-
-  pub end : PredictionSoFar order [] xs i k acc → k ≤ 4 → (acc ≡ predicted_at order xs i) × (nat_abs acc ≤ 24 * 2 ^ 32)
+  pub end : length cs ≤ k → k ≤ 4 → (acc ≡ dot (pos 0) cs (reverse (take i xs))) × (nat_abs acc ≤ 24 * 2 ^ 32)
   unfolding dot
-  end inv h = (sym inv.same, omega (arith, inv.bound))
+  end n h = (sym (inv.same ∙ ap (λ (d : List ℤ). dot acc d (reverse (take (i - k) xs))) (drop_of_length-le cs n)), omega (arith, inv.bound))
 
 -- ---- the coefficients of each order
 
@@ -76,13 +84,12 @@ pub predicted-none : (xs : List ℤ) (i : ℕ) → pos 0 ≡ predicted_at 0 xs i
 unfolding predicted_at fixed_coefficients dot
 predicted-none xs i = refl
 
--- an order above 4 has the coefficients of order 4
-pub predicted_above : {order : ℕ} (xs : List ℤ) (i : ℕ) → (order ≡ 0 → ⊥) → (order ≡ 1 → ⊥) → (order ≡ 2 → ⊥) → (order ≡ 3 → ⊥)
-    → predicted_at 4 xs i ≡ predicted_at order xs i
-unfolding predicted_at fixed_coefficients
-predicted_above xs i a b c d = rw (ne_eqb _ _ a, ne_eqb _ _ b, ne_eqb _ _ c, ne_eqb _ _ d)
+-- the prediction with the coefficients of an order
+pub with_coefficients : (xs : List ℤ) (i order : ℕ) {cs : List ℤ} → fixed_coefficients order ≡ cs → dot (pos 0) cs (reverse (take i xs)) ≡ predicted_at order xs i
+unfolding predicted_at
+with_coefficients xs i order e = ap (λ (l : List ℤ). dot (pos 0) l (reverse (take i xs))) (sym e)
 
--- an answer for one order serves another with the same coefficients
+-- the same prediction by another name (the code passes a signed value by its bits)
 pub same-coefficients : {r a b : ℤ} → SFits w64 r → (r ≡ a) × (nat_abs r ≤ 24 * 2 ^ 32) → a ≡ b → (bits64 r ≡ b) × (nat_abs (bits64 r) ≤ 24 * 2 ^ 32)
 same-coefficients f e d = rw (to_z-of_z f) (e.0 ∙ d, e.1)
 

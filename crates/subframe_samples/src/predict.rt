@@ -1,6 +1,8 @@
-// The fixed predictors (RFC 9639 section 9.2.5) as straight code, one product a call. The sums are exact: a coefficient
-// is at most 6 in size, a sample at most 2 ^ 32.
-ghost use Rattle.std.specs.Prelude.{◌≡◌, ◌+◌, ◌*◌, ◌^◌, ◌≤◌, ◌<◌, pos, nat_abs, ◌+ℤ◌, ◌*ℤ◌, length, get_or};
+// The fixed predictors (RFC 9639 section 9.2.5), a product for each coefficient. The sums are exact: a coefficient is at
+// most 6 in size, a sample at most 2 ^ 32.
+ghost use Rattle.std.specs.Prelude.{reverse, take, ◌≡◌, ◌+◌, ◌*◌, ◌^◌, ◌≤◌, ◌<◌, pos, nat_abs, ◌+ℤ◌, ◌*ℤ◌, length, get_or};
+ghost use Rattle.number.specs.Private.{Small};
+ghost use Rattle.rfc9639.specs.Prediction.{dot};
 ghost use Rattle.subframe_samples.specs.Sources.{stored_by};
 ghost use Rattle.subframe_samples.specs.Private.{predicted_at, residual_at};
 
@@ -15,38 +17,16 @@ fn add_product(source: &Source, i: usize, sum: i64, coefficient: i64) -> i64
     sum + coefficient * sample_at(source, i)
 }
 
-fn predict_order_1(source: &Source, i: usize) -> i64
-    requires { (1 ≤ i) × (i < length (stored_by source.now)) }
-    ensures { (result ≡ predicted_at 1 (stored_by source.now) i) × (nat_abs result ≤ 24 * 2 ^ 32) }
+// The products of the coefficients and the samples before sample i, the latest first, added up.
+fn predict(source: &Source, coefficients: &[i64], i: usize) -> i64
+    requires { (length coefficients.now ≤ i) × (i < length (stored_by source.now)) × (length coefficients.now ≤ 4) × Small 7 coefficients.now }
+    ensures { (result ≡ dot (pos 0) coefficients.now (reverse (take i (stored_by source.now)))) × (nat_abs result ≤ 24 * 2 ^ 32) }
 {
-    add_product(source, i - 1, 0, 1)
-}
-
-fn predict_order_2(source: &Source, i: usize) -> i64
-    requires { (2 ≤ i) × (i < length (stored_by source.now)) }
-    ensures { (result ≡ predicted_at 2 (stored_by source.now) i) × (nat_abs result ≤ 24 * 2 ^ 32) }
-{
-    let one = add_product(source, i - 1, 0, 2);
-    add_product(source, i - 2, one, -1)
-}
-
-fn predict_order_3(source: &Source, i: usize) -> i64
-    requires { (3 ≤ i) × (i < length (stored_by source.now)) }
-    ensures { (result ≡ predicted_at 3 (stored_by source.now) i) × (nat_abs result ≤ 24 * 2 ^ 32) }
-{
-    let one = add_product(source, i - 1, 0, 3);
-    let two = add_product(source, i - 2, one, -3);
-    add_product(source, i - 3, two, 1)
-}
-
-fn predict_order_4(source: &Source, i: usize) -> i64
-    requires { (4 ≤ i) × (i < length (stored_by source.now)) }
-    ensures { (result ≡ predicted_at 4 (stored_by source.now) i) × (nat_abs result ≤ 24 * 2 ^ 32) }
-{
-    let one = add_product(source, i - 1, 0, 4);
-    let two = add_product(source, i - 2, one, -6);
-    let three = add_product(source, i - 3, two, 4);
-    add_product(source, i - 4, three, -1)
+    let mut sum = 0;
+    for (k, coefficient) in coefficients.iter().enumerate() {
+        sum = add_product(source, i - 1 - k, sum, *coefficient);
+    }
+    sum
 }
 
 // The prediction of sample i. An order above 4 has the coefficients of order 4, as in the definition.
@@ -56,10 +36,10 @@ fn predicted_at(source: &Source, order: u32, i: usize) -> i64
 {
     match order {
         0 => 0,
-        1 => predict_order_1(source, i),
-        2 => predict_order_2(source, i),
-        3 => predict_order_3(source, i),
-        _ => predict_order_4(source, i),
+        1 => predict(source, &[1], i),
+        2 => predict(source, &[2, -1], i),
+        3 => predict(source, &[3, -3, 1], i),
+        _ => predict(source, &[4, -6, 4, -1], i),
     }
 }
 
