@@ -8,11 +8,9 @@ use mathlib.Core.Bool.{Bool, true, false}
 use mathlib.Core.List.{List, [], ◌++◌, append_assoc, append-nil}
 use lib.ListN.{length, take, drop, length-append, take-append-drop}
 use lib.Seq.{length-take-le}
-use Rattle.reading.specs.Places.{got_at, refused_at, short_at}
+use Rattle.reading.specs.Places.{got_at, short_at}
 use Rattle.std.specs.declared.ops.ControlFlow.{ControlFlow}
 use Rattle.std.specs.declared.ops.ControlFlow.TheVariants.{Continue, Break}
-use Rattle.error.specs.declared.Refusal.{Refusal}
-use Rattle.error.specs.Numbers.{number_of}
 use Rattle.frame_list.specs.declared.Card.{Card}
 use Rattle.frame_list.specs.declared.How.{How}
 use Rattle.frame_list.specs.declared.Last.{Last}
@@ -55,15 +53,6 @@ module _ (was left : List ℕ) (skip : Skip) (sound : Sound skip.card (length wa
     passes_turns (Continue (Passed.On next)) p = record { to = to; last = last; hops = hops; moves = p }
     passes_turns (Continue (Passed.Frames next)) p = record { to = to; hops = subst (HopsTo w skip.pass skip.last to) p.0 hops; moves = p.1 }
     passes_turns (Break end) p = record { same_card = p.same_card; place-fits = p.place-fits; tells = tells-end end.how p.how }
-
-  pub refused-turns : (e : Refusal)
-      → ((u more : List ℕ) → 0 < length u + skip.pass → blocks_from skip.last (u ++ (w ++ more)) (length u + skip.pass) ≡ refused_at (number_of e))
-      → Ends was skip (record { card = skip.card; place = 0; how = How.Refused e })
-  refused-turns e h = record {
-    same_card = refl;
-    place-fits = omega arith;
-    tells = λ u some more. ap (λ (s : List ℕ). blocks_from skip.last s (length u + skip.pass)) (append_assoc u w more) ∙ h u more some;
-  }
 
 -- ---- all looks
 

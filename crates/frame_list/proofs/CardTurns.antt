@@ -207,10 +207,3 @@ module _ (room : ℕ) (start : Card) (first : List ℕ) where
       numbered = omega (arith, s.same_base, s.same-held, sound.held_fits, sound.numbered);
       place-fits = omega (arith, s.same-held, s.place-fits);
     }
-
-pub begin : (room : ℕ) (start : Card) (w : List ℕ) → start.held ≤ length w → SoFar room start (take start.held w) w start
-begin room start w fits = record {
-  added = [];
-  long = omega (arith, ap length (append-nil (take start.held w)), length-take-le start.held w fits);
-  same = λ more. ap (λ (s : List ℕ). listed room start.base start.totals (s ++ more)) (append-nil (take start.held w));
-}

@@ -191,9 +191,6 @@ module _ {w : List ℕ} {from : ℕ} {was : Bool} {at : ℕ} {last : Bool} (h : 
           forth = omega (arith, h.forth, ap (λ (p : Place). p.byte) next.ends);
         }
 
-    module _ (e : Refusal) (f : refused_by e ≡ run_at block_head w (byte_at at)) where
-      pub hop_short : number_of e ≡ 2 → HopsTo w from was at false
-      hop_short n = record { same = (hops-as going).same; no_head = λ z. sym f ∙ refused-short e n; forth = h.forth }
-
-      pub hop_refused : (number_of e ≡ 2 → ⊥) → (u more : List ℕ) → 0 < length u + from → blocks_from was (u ++ (w ++ more)) (length u + from) ≡ refused_at (number_of e)
-      hop_refused n u more some = (hops-as going).same u more some ∙ window-refused u w more at (omega (arith, h.forth)) (sym f ∙ refused-number e n)
+    pub hop_refused : (e : Refusal) → refused_by e ≡ run_at block_head w (byte_at at) → (number_of e ≡ 2 → ⊥)
+        → (u more : List ℕ) → 0 < length u + from → blocks_from was (u ++ (w ++ more)) (length u + from) ≡ refused_at (number_of e)
+    hop_refused e f n u more some = (hops-as going).same u more some ∙ window-refused u w more at (omega (arith, h.forth)) (sym f ∙ refused-number e n)

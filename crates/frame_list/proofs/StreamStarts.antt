@@ -29,8 +29,7 @@ use Rattle.frame_list.specs.declared.Last.{Last}
 use Rattle.frame_list.specs.declared.opening.Skip.{Skip}
 use Rattle.frame_list.specs.declared.opening.Start.{Start}
 use Rattle.frame_list.specs.declared.opening.Look.{Look}
-use Rattle.frame_list.specs.CardProgress.{Sound, Continues}
-use Rattle.frame_list.specs.Opening.{told, byte_at, blocks_after, blocks_from, Tells, SkipsAll, SkipsTo, Refusing, Unstarted, Unmarked, NotFound, Found, StartTurns, Bare, Headed, HeaderOver, Stream}
+use Rattle.frame_list.specs.Opening.{told, byte_at, blocks_after, blocks_from, Tells, SkipsAll, SkipsTo, Refusing, Unstarted, NotFound, StartTurns, Bare, Headed, HeaderOver, Stream}
 use Rattle.frame_list.proofs.MetadataBlocks.{refused-short, refused-number}
 
 -- ---- a refusal of the start
@@ -108,29 +107,6 @@ module _ (was left : List ℕ) (card : Card) (e : Refusal) where
 -- ---- all looks: the window's first byte stays the card's
 
 module _ (card : Card) (width : ℕ) (bare : Bare card width) where
-  pub bare_on : (was left : List ℕ) → length was ≡ width → (next : Card) → Continues was card 0 next left → Bare next width
-  bare_on was left long next c = record {
-    no_base = omega (arith, c.next_base, bare.no_base);
-    none = c.same-totals ∙ bare.none;
-    sound = subst (Sound next) long c.sound;
-  }
-
-  bare-again : (left : List ℕ) (next : Card) → length left ≡ width → next ≡ card → Bare next (length left)
-  bare-again left next long same = subst (λ n. Bare next n) (sym long) (subst (λ (c : Card). Bare c width) (sym same) bare)
-
-  pub bare_unmarked : (w left : List ℕ) (next : Card) → length left ≡ width → (next ≡ card) × (left ≡ w) × Unmarked card (take card.held w)
-      → Bare next (length left) × Unmarked next (take next.held left)
-  bare_unmarked w left next long (same, still, none) =
-      (bare-again left next long same, subst (λ (c : Card). Unmarked c (take c.held left)) (sym same) (subst (λ (s : List ℕ). Unmarked card (take card.held s)) (sym still) none))
-
-  pub bare_headed : (w left : List ℕ) (info : StreamInfo) (skip : Skip) → length left ≡ width → left ≡ w → Found (take card.held w) card info skip → Headed info skip left
-  bare_headed w left info skip long same f = record {
-    bare = bare-again left skip.card long f.same_card;
-    start =
-        subst (λ (c : Card). run_at stream_start (take c.held left) (place_of 0) ≡ got_at (skip.last, info) (byte_at skip.pass)) (sym f.same_card)
-        (subst (λ (s : List ℕ). run_at stream_start (take card.held s) (place_of 0) ≡ got_at (skip.last, info) (byte_at skip.pass)) (sym same) f.start);
-  }
-
   pub bare_over : (s : List ℕ) (end : Last) → NotFound s card end → HeaderOver end
   bare_over s end f = record {
     seen = s;

@@ -61,12 +61,8 @@ fn pass_heads(bytes: &[u8], start: usize, done: bool) -> Result<(usize, bool), R
                 pass = end.byte + size as usize;
                 last = is_last;
             }
-            Err(e) => {
-                return match e {
-                    Refusal::CutShort => Ok((pass, false)),
-                    _ => Err(e),
-                };
-            }
+            Err(e) if e == Refusal::CutShort => return Ok((pass, false)),
+            Err(e) => return Err(e),
         }
     }
     Ok((pass, true))

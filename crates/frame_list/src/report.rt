@@ -1,7 +1,7 @@
 // The lines that the program writes: one for a stream header, one for each frame, one for the length of the frames, and a
 // last one that says how it ended. Each is written at once.
 use crate::{How, Totals, WINDOW};
-use error::{Need, Refusal};
+use error::Refusal;
 use frame::Accepted;
 use rfc9639::{Sizes, StreamInfo};
 use std::fmt;
@@ -75,10 +75,9 @@ struct Length(Totals);
 
 impl fmt::Display for Length {
     fn fmt<W: fmt::Write>(&self, f: &mut fmt::Formatter<W>) -> fmt::Result {
-        let Length(totals) = *self;
-        let length = totals.length;
+        let Totals { length, rate, .. } = self.0;
         write!(f, "length: {length} samples of a channel, ")?;
-        let Some(rate) = totals.rate.filter(|rate| *rate != 0) else {
+        let Some(rate) = rate.filter(|rate| *rate != 0) else {
             return write!(f, "rate unknown");
         };
         let rate = u64::from(rate);
@@ -182,45 +181,46 @@ struct Ending {
     at: u64,
 }
 
+impl Ending {
+    // The word that it starts with.
+    fn word(&self) -> &'static str {
+        match self.how {
+            How::Ended(Refusal::NothingLeft) if self.totals.frames == 0 => "empty",
+            How::Ended(Refusal::NothingLeft) => "ended",
+            How::Refused(Refusal::NoRoom) | How::TooLong | How::TooFar => "limit",
+            How::Ended(_) | How::Refused(_) => "stopped",
+            How::Unread(_) => "unread",
+        }
+    }
+}
+
 impl fmt::Display for Ending {
     fn fmt<W: fmt::Write>(&self, f: &mut fmt::Formatter<W>) -> fmt::Result {
         let Ending { how, totals, at } = *self;
+        write!(f, "{}: {totals}; ", self.word())?;
         match how {
             How::Ended(Refusal::NothingLeft) if totals.frames != 0 => {
-                write!(
-                    f,
-                    "ended: {totals}; the card ends after a frame, at byte {at}"
-                )
+                write!(f, "the card ends after a frame, at byte {at}")
             }
-            How::Ended(Refusal::NothingLeft) if at == 0 => {
-                write!(f, "empty: {totals}; the card has no bytes")
+            How::Ended(Refusal::NothingLeft) if at == 0 => write!(f, "the card has no bytes"),
+            How::Ended(Refusal::NothingLeft) => {
+                write!(f, "the card ends after its stream header, at byte {at}")
             }
-            How::Ended(Refusal::NothingLeft) => write!(
+            How::Refused(Refusal::NoRoom) => write!(
                 f,
-                "empty: {totals}; the card ends after its stream header, at byte {at}"
+                "the frame at byte {at} has more samples than this program has room for"
             ),
-            How::Refused(e) if e.needs() == Need::Room => write!(
-                f,
-                "limit: {totals}; the frame at byte {at} has more samples than this program has room for"
-            ),
-            How::Ended(e) | How::Refused(e) => write!(
-                f,
-                "stopped: {totals}; at byte {at}: {}, {e}",
-                u8::from(e)
-            ),
+            How::Ended(e) | How::Refused(e) => write!(f, "at byte {at}: {}, {e}", u8::from(e)),
             How::Unread(error) => write!(
                 f,
-                "unread: {totals}; the card could not be read after byte {at}: {}",
+                "the card could not be read after byte {at}: {}",
                 SystemError(error)
             ),
             How::TooLong => write!(
                 f,
-                "limit: {totals}; what stands at byte {at} is longer than this program's window of {WINDOW} bytes"
+                "what stands at byte {at} is longer than this program's window of {WINDOW} bytes"
             ),
-            How::TooFar => write!(
-                f,
-                "limit: {totals}; this program counts no further than byte {at}"
-            ),
+            How::TooFar => write!(f, "this program counts no further than byte {at}"),
         }
     }
 }

@@ -101,11 +101,5 @@ pub fn next_wanted(left: usize, room: usize) -> usize
     requires { left < room }
     ensures { (left < result) × (result ≤ room) }
 {
-    if left == 0 {
-        return 1;
-    }
-    if room - left < left {
-        return room;
-    }
-    left + left
+    left.saturating_mul(2).clamp(1, room)
 }

@@ -1,4 +1,4 @@
--- `frames::advance` meets its contract, by the window's list and the refusal's need. Assumes nothing.
+-- `frame_list::advance` meets its contract, by the window's list and the refusal's need. Assumes nothing.
 use mathlib.Core.Path.{refl, sym, ◌∙◌}
 use mathlib.Core.Logic.{⊎_elim}
 use Rattle.error.specs.declared.Need.{Need}

@@ -1,4 +1,4 @@
--- `frames::list_frames` meets its contract: each step takes a byte and keeps the list the same. Assumes nothing.
+-- `frame_list::list_frames` meets its contract: each step takes a byte and keeps the list the same. Assumes nothing.
 use Prim.Native.Nat.{◌+◌, ◌-◌, ◌≤◌}
 use mathlib.Core.Path.{◌≡◌}
 use lib.ListN.{length, drop}

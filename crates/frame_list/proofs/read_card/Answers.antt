@@ -1,4 +1,4 @@
--- `frames::read_card` meets its contract: each turn reads further and keeps the list the same. Assumes nothing.
+-- `frame_list::read_card` meets its contract: each turn reads further and keeps the list the same. Assumes nothing.
 use mathlib.Core.Path.{◌∙◌, subst}
 use Rattle.frame_list.specs.CardProgress.{Sound}
 use Rattle.frame_list.proofs.CardTurns.{so_far_on, so_far-runs}

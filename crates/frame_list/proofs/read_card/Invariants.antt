@@ -1,4 +1,4 @@
--- `frames::read_card` meets its contract: each turn reads further and keeps the list the same. Assumes nothing.
+-- `frame_list::read_card` meets its contract: each turn reads further and keeps the list the same. Assumes nothing.
 use mathlib.Core.Path.{◌≡◌}
 use lib.ListN.{length, take}
 use Rattle.frame_list.specs.CardProgress.{Sound, ahead}

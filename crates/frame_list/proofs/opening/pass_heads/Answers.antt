@@ -1,7 +1,10 @@
--- `frames::opening::pass_heads` meets its contract: each head leads to the next block, and is past the last. Assumes
+-- `frame_list::opening::pass_heads` meets its contract: each head leads to the next block, and is past the last. Assumes
 -- nothing.
 use native.Mathlib.Omega.{arith}
-use mathlib.Core.Path.{ap, sym}
+use mathlib.Core.Path.{◌≡◌, ap, sym}
+use mathlib.Core.Bool.{true≢false}
+use Rattle.error.specs.declared.Refusal.{Refusal}
+use Rattle.error.proofs.Outcome.{number-tells}
 use Rattle.reading.specs.declared.Place.{Place}
 use Rattle.frame_list.proofs.MetadataBlocks.{hopping, head_is, hop_on, hop_refused, hops-done}
 use Rattle.frame_list.proofs.opening.pass_heads.Goals as goal
@@ -25,5 +28,7 @@ loop-last-preserved c = hop_on c.loop-last.invariant c.loop-last-test.true (sym 
 pub returns : goal.returns
 returns c = hops-done c.loop-last.invariant c.loop-last-test.false
 
-pub returns-in_default : goal.returns-in_default
-returns-in_default c = hop_refused c.loop-last.invariant c.loop-last-test.true _ c.in-Err.ensures (grind (arith, c.in_default.not-CutShort))
+pub returns-in-Err-2 : goal.returns-in-Err-2
+returns-in-Err-2 c =
+    hop_refused c.loop-last.invariant c.loop-last-test.true _ c.in-Err.ensures
+    (λ n. let same : c.in-Err.e ≡ Refusal.CutShort = number-tells c.in-Err.e Refusal.CutShort n in true≢false (sym (rw same at c.if-eq.ensures)))

@@ -1,4 +1,4 @@
--- `frames::opening::pass_heads` meets its contract: each head leads to the next block, and is past the last. Assumes
+-- `frame_list::opening::pass_heads` meets its contract: each head leads to the next block, and is past the last. Assumes
 -- nothing.
 use Prim.Native.Nat.{◌-◌}
 use lib.ListN.{length}

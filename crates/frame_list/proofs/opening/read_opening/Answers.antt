@@ -1,4 +1,4 @@
--- `frames::opening::read_opening` meets its contract: the start, and the blocks after it. Assumes nothing.
+-- `frame_list::opening::read_opening` meets its contract: the start, and the blocks after it. Assumes nothing.
 use Rattle.frame_list.proofs.StreamStarts.{start-some, header-all, header_over}
 use Rattle.frame_list.proofs.opening.read_opening.Goals as goal
 

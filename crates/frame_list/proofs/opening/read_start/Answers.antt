@@ -1,4 +1,4 @@
--- `frames::opening::read_start` meets its contract: each look at the first bytes sees more of them. Assumes nothing.
+-- `frame_list::opening::read_start` meets its contract: each look at the first bytes sees more of them. Assumes nothing.
 use native.Mathlib.Omega.{arith}
 use mathlib.Core.Path.{◌≡◌, refl}
 use Rattle.frame_list.specs.CardProgress.{no_frames}

@@ -1,4 +1,4 @@
--- `frames::opening::read_start` meets its contract: each look at the first bytes sees more of them. Assumes nothing.
+-- `frame_list::opening::read_start` meets its contract: each look at the first bytes sees more of them. Assumes nothing.
 use mathlib.Core.Path.{◌≡◌}
 use lib.ListN.{length}
 use Rattle.frame_list.specs.CardProgress.{ahead}

@@ -1,4 +1,4 @@
--- `frames::opening::skip_blocks` meets its contract: each look moves on along the card. Assumes nothing.
+-- `frame_list::opening::skip_blocks` meets its contract: each look moves on along the card. Assumes nothing.
 use native.Mathlib.Omega.{arith}
 use mathlib.Core.Path.{refl, ◌∙◌, subst}
 use Rattle.frame_list.specs.CardProgress.{Sound}

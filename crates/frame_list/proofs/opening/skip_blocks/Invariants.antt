@@ -1,4 +1,4 @@
--- `frames::opening::skip_blocks` meets its contract: each look moves on along the card. Assumes nothing.
+-- `frame_list::opening::skip_blocks` meets its contract: each look moves on along the card. Assumes nothing.
 use mathlib.Core.Path.{◌≡◌}
 use lib.ListN.{length, take}
 use Rattle.frame_list.specs.CardProgress.{Sound, ahead}

@@ -1,4 +1,4 @@
--- `frames::opening::skip_turn` meets its contract, by where the heads lead. Assumes nothing.
+-- `frame_list::opening::skip_turn` meets its contract, by where the heads lead. Assumes nothing.
 use Rattle.frame_list.proofs.BlockTurns.{passes_turns}
 use Rattle.frame_list.proofs.opening.skip_turn.Goals as goal
 

@@ -1,4 +1,4 @@
--- `frames::opening::start_turn` meets its contract, by what the first bytes are. Assumes nothing.
+-- `frame_list::opening::start_turn` meets its contract, by what the first bytes are. Assumes nothing.
 use Rattle.frame_list.proofs.StreamStarts.{unstarted_turns}
 use Rattle.frame_list.proofs.opening.start_turn.Goals as goal
 

@@ -1,4 +1,4 @@
--- `frames::window::fill` meets its contract, and ends: a read brings a byte or uses up a try. Assumes nothing.
+-- `frame_list::window::fill` meets its contract, and ends: a read brings a byte or uses up a try. Assumes nothing.
 use Prim.Native.Nat.{◌+◌, ◌-◌}
 use Rattle.frame_list.proofs.FillInvariant.{FillInvariant}
 use Rattle.frame_list.proofs.window.fill_to.Given as goal
