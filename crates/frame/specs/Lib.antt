@@ -1,3 +1,2 @@
 -- What the frame reader and its parts answer, in the words of the definition.
-pub mod Private
 pub mod Reads
