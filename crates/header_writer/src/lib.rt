@@ -32,7 +32,8 @@ pub fn write_header<'a>(set: FrameSetting, out: &'a mut [u8]) -> BitWriter<'a>
     let mut writer = BitWriter::new(out);
     if header_length(set) <= room {
         write_fields(set, &mut writer);
-        let sum = crc::crc8(writer.written());
+        let fields = writer.written();
+        let sum = crc::crc8(fields);
         writer.write_bits(8, sum as u64);
     }
     writer
