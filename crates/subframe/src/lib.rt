@@ -1,5 +1,6 @@
-// One channel of a block (RFC 9639 section 9.2), after claxon's subframe.rs. `decode` answers on every argument, with
-// the place after the channel or why it is refused. It leaves the samples of the definition in the caller's slice, or zeros where it refuses.
+// One channel of a block (RFC 9639 section 9.2), after claxon's subframe.rs. `decode` answers on every argument: with the
+// place after the channel, or with why it is refused. It leaves the samples of the definition in the caller's slice, or
+// zeros where it refuses.
 #![tactic(auto)]
 
 mod bit_offset;

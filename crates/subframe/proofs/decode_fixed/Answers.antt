@@ -1,11 +1,10 @@
 -- `decode_fixed`: the warm-up samples, then prediction by known coefficients. Assumes nothing.
 use Prim.Native.Nat.{ℕ}
 use native.Mathlib.Omega.{arith}
-use mathlib.Core.Path.{sym, ◌∙◌}
+use mathlib.Core.Path.{◌∙◌}
 use mathlib.Core.List.{List, ◌++◌}
 use lib.IntN.{ℤ}
 use lib.ListN.{length, drop}
-use lib.Seq.{length-take-le}
 use Rattle.reading.specs.Readers.{Ask, ◌>>=◌, done, many}
 use Rattle.rfc9639.specs.Integers.{signed_bits}
 use Rattle.rfc9639.specs.Residual.{residual}
@@ -20,18 +19,12 @@ use Rattle.subframe.proofs.decode_fixed.Goals as goal
 abbrev rest : ℕ → ℕ → List ℤ → Ask (List ℤ)
 rest order n w = residual order n >>= (λ r. done (predict (fixed_coefficients order) 0 w r))
 
-pub slice_bounds-decode_verbatim-end-2 : goal.slice_bounds-decode_verbatim-end-2
-slice_bounds-decode_verbatim-end-2 c = sym (length-take-le _ _ (omega arith))
-
 pub returns-in_err-p : goal.returns-in_err-p
 unfolding fixed
 returns-in_err-p c =
     let a = c.args in
     front-stops (λ k. many k (signed_bits a.width)) a.s.now a.at a.order a.out.now c.requires.2 (rest a.order (length a.out.now)) _ _
     c.from_residual.ensures.1 c.in_err-p.ensures _
-
-pub slice_bounds-decode_predicted-end : goal.slice_bounds-decode_predicted-end
-slice_bounds-decode_predicted-end c = sym (length-take-le _ _ (omega arith))
 
 pub decode_predicted-requires : goal.decode_predicted-requires
 decode_predicted-requires c =

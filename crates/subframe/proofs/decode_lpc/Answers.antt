@@ -5,7 +5,6 @@ use mathlib.Core.Path.{ap₂, sym, ◌∙◌}
 use mathlib.Core.List.{List}
 use lib.IntN.{ℤ}
 use lib.ListN.{length, drop}
-use lib.Seq.{length-take-le}
 use Rattle.reading.specs.Readers.{Ask, ◌>>=◌, many}
 use Rattle.reading.specs.Places.{run_at}
 use Rattle.reading.proofs.ByteRuns.{bind_got_lem}
@@ -22,9 +21,6 @@ quantized_then order n w q = lpc_after_shift order q.0 q.1 w n
 
 abbrev rest : ℕ → ℕ → List ℤ → Ask (List ℤ)
 rest order n w = quantization >>= quantized_then order n w
-
-pub slice_bounds-decode_verbatim-end-2 : goal.slice_bounds-decode_verbatim-end-2
-slice_bounds-decode_verbatim-end-2 c = sym (length-take-le _ _ (omega arith))
 
 pub returns-in_err-p : goal.returns-in_err-p
 unfolding lpc

@@ -1,11 +1,10 @@
 -- `decode_lpc_after_shift`: the coefficients into an array, then prediction by them. Assumes nothing.
 use Prim.Native.Nat.{ℕ, ◌≤◌}
 use native.Mathlib.Omega.{arith}
-use mathlib.Core.Path.{◌≡◌, refl, sym, ◌∙◌}
+use mathlib.Core.Path.{◌≡◌, refl, ◌∙◌}
 use mathlib.Core.List.{List, ◌++◌}
 use lib.IntN.{ℤ, pos}
 use lib.ListN.{length, take, drop, replicate}
-use lib.Seq.{length-take-le}
 use Rattle.reading.specs.Readers.{Ask, done, ◌>>=◌, many}
 use Rattle.rfc9639.specs.Integers.{signed_bits}
 use Rattle.rfc9639.specs.Residual.{residual}
@@ -30,22 +29,12 @@ front order h cs kept = first_taken order room h cs kept (drop order room)
 within : (order : ℕ) → order ≤ 32 → (cs : List ℤ) → length cs ≡ length (take order room) → order ≤ length (cs ++ drop order room)
 within order h cs kept = omega (arith, front_replaced-length order room h cs kept, h)
 
-pub slice_bounds-decode_verbatim-end : goal.slice_bounds-decode_verbatim-end
-slice_bounds-decode_verbatim-end c = sym (length-take-le c.args.order room c.requires.2)
-
 pub returns-in_err-p : goal.returns-in_err-p
 unfolding lpc_after_shift
 returns-in_err-p c =
     let a = c.args in
     front-stops (λ k. many k (signed_bits a.precision)) a.s.now a.at a.order room c.requires.2 (rest a.order a.shift a.out.now) _ _
     c.from_residual.ensures.1 c.in_err-p.ensures _
-
-pub slice_bounds-coefficients-end-2 : goal.slice_bounds-coefficients-end-2
-slice_bounds-coefficients-end-2 c = within c.args.order c.requires.2 c.decode_verbatim.new.out c.decode_verbatim.auto.out
-
-pub slice_bounds-decode_predicted-end : goal.slice_bounds-decode_predicted-end
-slice_bounds-decode_predicted-end c =
-    sym (length-take-le _ _ (within c.args.order c.requires.2 c.decode_verbatim.new.out c.decode_verbatim.auto.out))
 
 -- as many coefficients as the order, each small
 pub decode_predicted-requires : goal.decode_predicted-requires

@@ -5,13 +5,10 @@ use mathlib.Core.Path.{sym, subst}
 use mathlib.Core.List.{List}
 use borrow.Author.Rules.{rules}
 use lib.IntN.{ℤ}
-use Rattle.subframe.proofs.DecodedSubframes.{Mapped, begin, turn, kept, end, shift_none}
+use Rattle.subframe.proofs.DecodedSubframes.{Mapped, turn, kept, end, shift_none}
 use Rattle.rfc9639.specs.Integers.{shift_up}
 use Rattle.subframe.proofs.shift_all.Goals as goal
 use Rattle.subframe.proofs.shift_all.Goals.{then-wasted-ne0, else-wasted-ne0}
-
-pub loop-x-init : goal.loop-x-init
-loop-x-init c = begin _ _
 
 pub loop-x-preserved : goal.loop-x-preserved
 loop-x-preserved c =

@@ -6,43 +6,15 @@ use lib.ListN.{length}
 use Rattle.subframe.proofs.FixedSums.{exact_at, exact_multiple, exact-sum, exact_difference, exact-answer, fixed_sum_1, fixed_sum_2, fixed_sum_3}
 use Rattle.subframe.proofs.predict.fixed_sum.Goals as goal
 
-pub overflow_cast-a : goal.overflow_cast-a
-overflow_cast-a c = let l = c.args.before.now in (exact_at l (length l - 1) (search rules)).fits
-
 pub returns-then-order-eq1 : goal.returns-then-order-eq1
 returns-then-order-eq1 c =
     let l = c.args.before.now in
     exact-answer (exact_at l (length l - 1) (search rules)) (fixed_sum_1 l c.requires.2 c.if-order-eq1.true) (omega arith)
 
-pub overflow_cast-b : goal.overflow_cast-b
-overflow_cast-b c = let l = c.args.before.now in (exact_at l (length l - 1 - 1) (search rules)).fits
-
--- twice the latest sample, less the second
-pub overflow_mul-result : goal.overflow_mul-result
-overflow_mul-result c = let l = c.args.before.now in let a = exact_at l (length l - 1) (search rules) in (exact_multiple a 2 (omega arith)).fits
-
-pub overflow_sub-result : goal.overflow_sub-result
-overflow_sub-result c = let l = c.args.before.now in let a = exact_at l (length l - 1) (search rules) in let b = exact_at l (length l - 1 - 1) (search rules) in (exact_difference (exact_multiple a 2 (omega arith)) b (omega arith)).fits
-
 pub returns-then-order-eq2 : goal.returns-then-order-eq2
 returns-then-order-eq2 c =
     let l = c.args.before.now in let a = exact_at l (length l - 1) (search rules) in let b = exact_at l (length l - 1 - 1) (search rules) in
     exact-answer (exact_difference (exact_multiple a 2 (omega arith)) b (omega arith)) (fixed_sum_2 l c.requires.2 c.if-order-eq2.true) (omega arith)
-
-pub overflow_cast-c : goal.overflow_cast-c
-overflow_cast-c c = let l = c.args.before.now in (exact_at l (length l - 1 - 2) (search rules)).fits
-
--- the latest sample less the second, three times, and the third
-pub overflow_sub-result-2 : goal.overflow_sub-result-2
-overflow_sub-result-2 c = let l = c.args.before.now in let a = exact_at l (length l - 1) (search rules) in let b = exact_at l (length l - 1 - 1) (search rules) in (exact_difference a b (omega arith)).fits
-
-pub overflow_mul-result-2 : goal.overflow_mul-result-2
-overflow_mul-result-2 c = let l = c.args.before.now in let a = exact_at l (length l - 1) (search rules) in let b = exact_at l (length l - 1 - 1) (search rules) in (exact_multiple (exact_difference a b (omega arith)) 3 (omega arith)).fits
-
-pub overflow_add-result : goal.overflow_add-result
-overflow_add-result c =
-    let l = c.args.before.now in let a = exact_at l (length l - 1) (search rules) in let b = exact_at l (length l - 1 - 1) (search rules) in let d = exact_at l (length l - 1 - 2) (search rules) in
-    (exact-sum (exact_multiple (exact_difference a b (omega arith)) 3 (omega arith)) d (omega arith)).fits
 
 pub returns : goal.returns
 returns c =

@@ -4,19 +4,10 @@ use lib.IntN.{ℤ, nat_abs, ◌+ℤ◌, ◌*ℤ◌}
 use mir.Syntax.{w32, w64}
 use mir.Val.{SFits, to_z, of_z}
 use mir.Facts.{to_z-of_z}
-use Rattle.rfc9639.proofs.MachineIntegers.{widen_fits, widened}
+use Rattle.rfc9639.proofs.MachineIntegers.{widened}
 use Rattle.number.proofs.ProductSums.{product-fits, mul_add-fits, sample-fits_33}
 use Prim.Native.Nat.{◌^◌, ◌<◌}
 use Rattle.subframe.proofs.predict.mul_add.Goals as goal
-
-pub overflow_cast-result : goal.overflow_cast-result
-overflow_cast-result c = widen_fits c.ranges.c
-
-pub overflow_cast-result-2 : goal.overflow_cast-result-2
-overflow_cast-result-2 c = widen_fits c.ranges.x
-
-pub overflow_mul-result : goal.overflow_mul-result
-overflow_mul-result c = rw (widened c.ranges.c, widened c.ranges.x) (product-fits c.args.c c.args.x c.requires.1 (sample-fits_33 c.ranges.x))
 
 -- the product, which the code passes by its bits
 product : {c x : ℤ} → SFits w32 c → SFits w32 x → nat_abs c < 2 ^ 15

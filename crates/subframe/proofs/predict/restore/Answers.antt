@@ -7,13 +7,10 @@ use mir.Val.{SFits, to_z, of_z}
 use mir.Facts.{to_z-of_z}
 use Rattle.rfc9639.specs.Integers.{wrapped, shift_down}
 use Rattle.rfc9639.proofs.Widths.{of_sfits}
-use Rattle.rfc9639.proofs.MachineIntegers.{widen_fits, widened}
+use Rattle.rfc9639.proofs.MachineIntegers.{widened}
 use Rattle.number.proofs.ProductSums.{abs_shift_down, abs_of_fits, add_fits}
 use Prim.Native.Nat.{ℕ, ◌^◌, ◌<◌}
 use Rattle.subframe.proofs.predict.restore.Goals as goal
-
-pub overflow_cast-residual : goal.overflow_cast-residual
-overflow_cast-residual c = widen_fits c.ranges.residual
 
 -- the shifted sum, which the code passes by its bits
 down : {sum z : ℤ} (shift : ℕ) → SFits w64 sum → SFits w64 z → z ≡ shift_down shift (to_z w64 (of_z w64 sum)) → to_z w64 (of_z w64 z) ≡ shift_down shift sum

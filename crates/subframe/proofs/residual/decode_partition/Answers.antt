@@ -1,14 +1,10 @@
 -- `decode_partition`: the parameter, then the residuals coded with it or stored as they are. Assumes nothing.
 use native.Mathlib.Omega.{arith}
-use lib.Pow.{pow_pos}
-use Rattle.subframe.proofs.Partitions.{parameter_count, parameter_refused, field_below, partition-escaped, partition-coded}
+use Rattle.subframe.proofs.Partitions.{parameter_refused, field_below, partition-escaped, partition-coded}
 use Rattle.subframe.proofs.residual.decode_partition.Goals as goal
 
 pub returns-in_err-k : goal.returns-in_err-k
 returns-in_err-k c = parameter_refused _ _ _ _ (omega arith) _ _ c.from_residual.ensures.1 c.in_err-k.ensures _
-
-pub overflow_sub-method : goal.overflow_sub-method
-overflow_sub-method c = rw (parameter_count c.args.method c.requires) (pow_pos _)
 
 pub returns-then-k-method : goal.returns-then-k-method
 returns-then-k-method c = partition-escaped _ _ _ _ (omega arith) c.in_ok-k.ensures c.if-k-method.true c.decode_escaped.ensures

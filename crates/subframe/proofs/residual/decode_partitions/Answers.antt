@@ -1,18 +1,14 @@
 -- `decode_partitions`: the first partition, then the others, each into its part of the slice. Assumes nothing.
 use Prim.Native.Nat.{◌-◌}
 use native.Mathlib.Omega.{arith}
-use mathlib.Core.Path.{ap, sym, ◌∙◌}
+use mathlib.Core.Path.{ap, ◌∙◌}
 use lib.ListN.{replicate}
-use lib.Seq.{length-take-le}
 use Rattle.reading.specs.Readers.{each}
 use Rattle.rfc9639.specs.Residual.{partition}
 use Rattle.subframe.specs.Answers.{samples_at}
 use Rattle.subframe.proofs.SliceParts.{front-got, front-stops, parts-put}
 use Rattle.subframe.proofs.Partitions.{first_then}
 use Rattle.subframe.proofs.residual.decode_partitions.Goals as goal
-
-pub slice_bounds-decode_partition-end-2 : goal.slice_bounds-decode_partition-end-2
-slice_bounds-decode_partition-end-2 c = sym (length-take-le _ _ (omega arith))
 
 pub returns-in_err-p : goal.returns-in_err-p
 unfolding each

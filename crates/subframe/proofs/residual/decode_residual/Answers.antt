@@ -1,8 +1,7 @@
 -- `decode_residual`: the method and the order, the partition size checked, and the partitions. Assumes nothing.
 use native.Mathlib.Omega.{arith}
-use mathlib.Core.Path.{◌∙◌}
 use Rattle.subframe.proofs.SliceParts.{samples_stop}
-use Rattle.subframe.proofs.ResidualShapes.{partition_count_positive, sizes-sum, method_refused, method_reserved, order_refused, order_below, size_uneven, size-below-warm, partitions_read}
+use Rattle.subframe.proofs.ResidualShapes.{partition_count_positive, method_refused, method_reserved, order_refused, order_below, size_uneven, size-below-warm, partitions_read}
 use Rattle.subframe.proofs.residual.decode_residual.Goals as goal
 
 pub returns-in_err-method : goal.returns-in_err-method
@@ -40,11 +39,6 @@ returns-then-size-warm c =
 pub overflow_sub-count : goal.overflow_sub-count
 overflow_sub-count c =
     partition_count_positive (order_below 0 0 _ _ c.in_ok-method.ensures c.if-method-ge2.false c.in_ok-order.ensures)
-
-pub decode_partitions-requires : goal.decode_partitions-requires
-decode_partitions-requires c =
-    let below = order_below 0 0 _ _ c.in_ok-method.ensures c.if-method-ge2.false c.in_ok-order.ensures in
-    (c.if-method-ge2.false, c.if-size-warm.false, c.requires.1 ∙ sizes-sum below _ _ c.if-n-count-ne0.false c.if-size-warm.false)
 
 pub returns : goal.returns
 returns c =

@@ -4,9 +4,6 @@ use Rattle.rfc9639.specs.Residual.{folded}
 use Rattle.subframe.proofs.SampleReaders.{folded_fits}
 use Rattle.subframe.proofs.residual.folded.Goals as goal
 
-pub overflow_add-result : goal.overflow_add-result
-overflow_add-result c = record { fits = omega (arith, folded_fits _ _ _ c.requires.0 c.requires.1 c.requires.2) }
-
 pub returns : goal.returns
 unfolding folded
 returns c = let f = folded_fits _ _ _ c.requires.0 c.requires.1 c.requires.2 in omega (arith, f)

@@ -3,12 +3,9 @@ use native.Mathlib.Nat.{mod-lt, pos_of_ne-zero}
 use native.Mathlib.Omega.{arith}
 use mathlib.Core.Path.{refl}
 use lib.Pow.{pow_pos}
-use Rattle.reading.proofs.Words.{leading_most, first_one}
+use Rattle.reading.proofs.Words.{first_one}
 use Rattle.subframe.proofs.RiceWords.{rice_in_word}
 use Rattle.subframe.proofs.residual.read_rice.Goals as goal
-
-pub overflow_sub-top : goal.overflow_sub-top
-overflow_sub-top c = leading_most 64 _ (pos_of_ne-zero c.if-w-eq0.false) (mod-lt _ (pow_pos 64))
 
 pub code_at_top-requires : goal.code_at_top-requires
 code_at_top-requires c = (omega arith, omega arith, omega arith, first_one 64 _ (pos_of_ne-zero c.if-w-eq0.false) (mod-lt _ (pow_pos 64)))
