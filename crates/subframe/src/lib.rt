@@ -8,7 +8,7 @@ mod header;
 mod predict;
 mod residual;
 
-ghost use Rattle.std.specs.Prelude.{◌≡◌, ◌≤◌, ◌<◌, pos, length, map};
+ghost use Rattle.std.specs.Prelude.{◌≡◌, ◌≤◌, ◌<◌, length, map};
 ghost use Rattle.reading.specs.Places.{run_at};
 ghost use Rattle.rfc9639.specs.Subframe.{fixed, lpc, samples_by_type, order_of, subframe_after_header};
 ghost use Rattle.rfc9639.specs.Integers.{shift_up};

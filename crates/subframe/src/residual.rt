@@ -132,7 +132,7 @@ fn decode_partition(s: &[u8], at: Place, method: u32, out: &mut [i32]) -> Result
     decode_rice(s, p, k as u32, out)
 }
 
-// `count` partitions of `size` residuals each, which fill `out`.
+// `count` partitions of `size` residuals each, which fill `out`. The size may be 0, so the parts are no chunks of it.
 fn decode_equal_partitions(
     s: &[u8],
     at: Place,
