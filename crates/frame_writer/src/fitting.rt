@@ -14,10 +14,5 @@ pub fn all_fit(samples: &[i32], bits: u32) -> bool
     requires { (1 ≤ bits) × (bits ≤ 32) }
     ensures { result ≡ all_fit bits samples.now }
 {
-    for x in samples {
-        if !does_fit(*x, bits) {
-            return false;
-        }
-    }
-    true
+    samples.iter().all(|x| does_fit(*x, bits))
 }

@@ -1,17 +1,14 @@
--- `all_fit` meets its contract: a turn for each sample. Assumes nothing.
+-- `all_fit` meets its contract: the library's `all`, in the definition's words. Assumes nothing.
 use borrow.Author.Rules.{rules}
-use mathlib.Core.Path.{refl, sym, ◌∙◌}
-use Rattle.frame_writer.proofs.SampleFit.{fit_fails, fit_next, fit-end}
+use borrow.Author.Tests.{tests}
+use mathlib.Core.Path.{◌∙◌}
+use Rattle.std.proofs.lemmas.Iterator.{YieldsList-from_slice}
+use Rattle.std.proofs.lemmas.Iterator.Search.{all_from_yields_List}
+use Rattle.rfc9639.specs.Write.{fits}
+use Rattle.frame_writer.proofs.SampleFit.{all-fits}
 use Rattle.frame_writer.proofs.fitting.all_fit.Goals as goal
 
-pub loop-x-init : goal.loop-x-init
-loop-x-init c = (search rules, refl)
-
-pub returns-then-not-does_fit : goal.returns-then-not-does_fit
-returns-then-not-does_fit c = fit_fails _ _ _ c.loop-x.invariant.1 c.loop-x-test.true (record { sfits = search rules }) (sym c.does_fit.ensures ∙ c.if-not-does_fit.true)
-
-pub loop-x-preserved : goal.loop-x-preserved
-loop-x-preserved c = (search rules, fit_next _ _ _ c.loop-x.invariant.1 c.loop-x-test.true (record { sfits = search rules }) (sym c.does_fit.ensures ∙ c.if-not-does_fit.false))
-
 pub returns : goal.returns
-returns c = fit-end _ _ _ c.loop-x.invariant.1 c.loop-x-test.false
+returns c =
+    all_from_yields_List (fits c.args.bits) _ _ c.all.result c.all.ensures.ran (YieldsList-from_slice c.args.samples.now cc) (λ x b q k. search (rules, tests))
+    ∙ all-fits c.args.bits c.args.samples.now
