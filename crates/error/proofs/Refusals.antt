@@ -65,7 +65,11 @@ passed_at-one (Ok p) (Err e') h = absurd (got_not_refused tt p e' h)
 passed_at-one (Err e) (Ok p') h = absurd (got_not_refused tt p' e (sym h))
 passed_at-one (Err e) (Err e') h = ap Err (refused-one {A = Unit {0}} e e' h)
 
--- The exit of a `?`: the refusal of a reader's first part is the reader's. What the exit returns is known by `IsErrAnd`.
+-- What the exit of a `?` returns.
+pub exit : {T : Type 0} (r : Result T Refusal) (e : Refusal) → IsErrAnd r (λ y. y ≡ e) → r ≡ Err e
+exit r e i = let y = err_from_is_err_and r i in y.1 ∙ ap Err y.2
+
+-- The refusal of a reader's first part is the reader's.
 module _ {A B : Type 0} (p : Ask A) (k : A → Ask B) (s : List ℕ) (at : Place) where
   pub exits : (r : Result (B × Place) Refusal) (e : Refusal) → IsErrAnd r (λ y. y ≡ e) → refused_by e ≡ run_at p s at → read_at r ≡ run_at (p >>= k) s at
-  exits r e i h = let x = err_from_is_err_and r i in rw (x.1, x.2) (sym (bind_refusal p s at k e (sym h)))
+  exits r e i h = rw (exit r e i) (sym (bind_refusal p s at k e (sym h)))

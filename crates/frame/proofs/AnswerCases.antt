@@ -13,9 +13,9 @@ use Rattle.reading.specs.Readers.{bits}
 use Rattle.reading.specs.Places.{place_of, got_at, refused_at, short_at, run_at}
 use Rattle.std.specs.Prelude.{Option, Result as Answer, Ok, Err}
 use Rattle.std.specs.Result.{IsErrAnd}
-use Rattle.std.proofs.lemmas.Result.{err_from_is_err_and}
 use Rattle.error.specs.declared.Refusal.{Refusal}
 use Rattle.error.specs.declared.Refusal.TheVariants.{NothingLeft, CutShort, NoRoom, NotDone, BadShape, BadArgument}
+use Rattle.error.proofs.Refusals.{exit}
 use Rattle.error.specs.Numbers.{number_of, refused_by}
 use Rattle.rfc9639.specs.declared.FrameHeader.{FrameHeader}
 use Rattle.rfc9639.specs.declared.Settings.{Settings}
@@ -124,8 +124,7 @@ module _ (given : Settings) (s : List ℕ) (b : List ℤ) where
 
                 pub body_refused : {x : Refusal} (r : Answer Accepted Refusal) → IsErrAnd r (λ y. y ≡ x) → Left (run_at (body h) s p) (sample_count h) (Err x) front → Reads (read given s b) r left
                 body_refused {x} r i leaves =
-                    let d = err_from_is_err_and r i in
-                    rw (d.1, d.2) (reads-zeroed x h (go (eqb (number_of x) 2) refl (sym leaves.answer)) (stands ∙ ap (λ l. l ++ drop (sample_count h) b) leaves.stopped))
+                    rw (exit r x i) (reads-zeroed x h (go (eqb (number_of x) 2) refl (sym leaves.answer)) (stands ∙ ap (λ l. l ++ drop (sample_count h) b) leaves.stopped))
                   where
                     go : (y : Bool) → eqb (number_of x) 2 ≡ y → run_at (body h) s p ≡ cond y short_at (refused_at (number_of x)) → result set s ≡ zeroed (number_of x) h
                     go true g k = cases.body-short set s ok e whole some equal within fits f k ∙ ap (λ n. zeroed n h) (sym (eqb-true (number_of x) 2 g))

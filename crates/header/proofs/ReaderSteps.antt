@@ -14,10 +14,10 @@ use Rattle.reading.proofs.ByteRuns.{In, run_at-stop, bind_refused}
 use Rattle.reading.proofs.Postconditions.{Holds, Meets, holds_at}
 use Rattle.std.specs.Prelude.{Result}
 use Rattle.std.specs.Result.{IsErrAnd}
-use Rattle.std.proofs.lemmas.Result.{err_from_is_err_and}
 use Rattle.error.specs.declared.Refusal.{Refusal}
 use Rattle.error.specs.Numbers.{number_of, refused_by}
 use Rattle.error.specs.Answers.{read_at, passed_at}
+use Rattle.error.proofs.Refusals.{exit}
 use Rattle.input.specs.Answers.{low64}
 use Rattle.input.proofs.Callers.{read_exact}
 use Rattle.demands.proofs.Headers.{Early}
@@ -29,10 +29,10 @@ bits_read n s at h e = sym (read_exact n s at (leb-true n 64 h) e)
 
 -- what a `?` returns, where the reader is refused
 pub exits_by : {A : Type 0} {x : At A} (r : Result (A × Place) Refusal) (e : Refusal) → IsErrAnd r (λ y. y ≡ e) → x ≡ refused_by e → read_at r ≡ x
-exits_by r e i h = let y = err_from_is_err_and r i in rw (y.1, y.2) (sym h)
+exits_by r e i h = rw (exit r e i) (sym h)
 
 pub passed_exits : {x : At (Unit {0})} (r : Result Place Refusal) (e : Refusal) → IsErrAnd r (λ y. y ≡ e) → x ≡ refused_by e → passed_at r ≡ x
-passed_exits r e i h = let y = err_from_is_err_and r i in rw (y.1, y.2) (sym h)
+passed_exits r e i h = rw (exit r e i) (sym h)
 
 module _ {A B : Type 0} (t : Ask A) (k : A → Ask B) (s : List ℕ) (at : Place) where
   pub known-done : {a : A} → done a ≡ t → run_at (t >>= k) s at ≡ run_at (k a) s at

@@ -1,12 +1,9 @@
 -- A function that reads part after part, as the definition does. Each step takes what the rest gives, so the proof of a
 -- return has the order of the code. Assumes nothing.
 use Prim.Native.Nat.{ℕ, ◌^◌, ◌≤◌, ◌<◌}
-use mathlib.Core.Path.{◌≡◌, ap, sym, ◌∙◌}
+use mathlib.Core.Path.{◌≡◌, sym, ◌∙◌}
 use mathlib.Core.Bool.{Bool, true, false}
 use mathlib.Core.List.{List}
-use Rattle.std.specs.Prelude.{Result, Err}
-use Rattle.std.specs.Result.{IsErrAnd}
-use Rattle.std.proofs.lemmas.Result.{err_from_is_err_and}
 use Rattle.reading.specs.declared.Place.{Place}
 use Rattle.reading.specs.Readers.{Ask, done, ◌>>=◌, bits, require}
 use Rattle.reading.specs.Places.{At, got_at, refused_at, run_at}
@@ -14,12 +11,9 @@ use Rattle.reading.proofs.ByteRuns.{In, stays_in, run_at-done, run_at-stop, bind
 use Rattle.error.specs.declared.Refusal.{Refusal}
 use Rattle.error.specs.Numbers.{refused_by}
 use Rattle.error.proofs.Refusals.{bind_refusal}
+pub use Rattle.error.proofs.Refusals.{exit}
 use Rattle.input.specs.Answers.{low64}
 use Rattle.input.proofs.Callers.{read_exact}
-
--- what a `?` returns
-pub exit : {T : Type 0} (r : Result T Refusal) (e : Refusal) → IsErrAnd r (λ y. y ≡ e) → r ≡ Err e
-exit r e i = let y = err_from_is_err_and r i in y.1 ∙ ap Err y.2
 
 module _ {A B : Type 0} (p : Ask A) (k : A → Ask B) (s : List ℕ) (at : Place) where
   pub refused_first : (e : Refusal) → refused_by e ≡ run_at p s at → refused_by e ≡ run_at (p >>= k) s at

@@ -14,7 +14,7 @@ use mir.Val.{SFits, to_z, of_z}
 use mir.Facts.{to_z-of_z}
 use Rattle.std.specs.Prelude.{Result}
 use Rattle.std.specs.Result.{IsErrAnd}
-use Rattle.std.proofs.lemmas.Result.{err_from_is_err_and}
+use Rattle.error.proofs.Refusals.{exit}
 use Rattle.reading.specs.declared.Place.{Place}
 use Rattle.reading.specs.Places.{position, place_of, got_at, run_at}
 use Rattle.reading.proofs.Bits.{one_shifted}
@@ -43,7 +43,7 @@ module _ (k : ℕ) (s : List ℕ) (o : BitOffset) {at : Place} (here : at ≡ pl
 
   pub any_refused : (e : Refusal) (r : Result (ℤ × BitOffset) Refusal) → IsErrAnd r (λ y. y ≡ e) → refused_by e ≡ run_at (rice k) s at
       → (rice_read_at r ≡ run_at (rice k) s (place_after o)) × StartsInWord r
-  any_refused e r i h = let d = err_from_is_err_and r i in rw (d.1, d.2) (h ∙ ap (run_at (rice k) s) here, tt)
+  any_refused e r i h = rw (exit r e i) (h ∙ ap (run_at (rice k) s) here, tt)
 
 -- ---- the remainder, of a word whose first one is bit `top`
 

@@ -11,7 +11,6 @@ use lib.ListN.{length, take, drop, length-append}
 use lib.Seq.{take_at, drop_at, drop-length, length-take-le, length_front}
 use Rattle.std.specs.Prelude.{Result, Ok, Err}
 use Rattle.std.specs.Result.{IsErrAnd}
-use Rattle.std.proofs.lemmas.Result.{err_from_is_err_and}
 use Rattle.reading.specs.declared.Place.{Place}
 use Rattle.reading.specs.Readers.{Ask, done, ◌>>=◌}
 use Rattle.reading.specs.Places.{At, got_at, refused_at, short_at, run_at}
@@ -19,17 +18,17 @@ use Rattle.reading.proofs.ByteRuns.{stays_in, run_at-done, bind_got_lem, prepend
 use Rattle.error.specs.declared.Refusal.{Refusal}
 use Rattle.error.specs.Answers.{read_at}
 use Rattle.error.specs.Numbers.{number_of, refused_by}
-use Rattle.error.proofs.Refusals.{bind_refusal}
+use Rattle.error.proofs.Refusals.{bind_refusal, exit}
 use Rattle.subframe.specs.Answers.{samples_at}
 
 -- ---- a decoder's answer
 
 -- The exit of a `?`: what it returns is known by `IsErrAnd`. A decoder's refusal is returned whatever the slice holds.
 pub read_stops : {A : Type 0} {x : At A} (e : Refusal) (r : Result (A × Place) Refusal) → IsErrAnd r (λ y. y ≡ e) → refused_by e ≡ x → read_at r ≡ x
-read_stops e r i h = let d = err_from_is_err_and r i in rw (d.1, d.2) h
+read_stops e r i h = rw (exit r e i) h
 
 pub samples_stop : {x : At (List ℤ)} (e : Refusal) (r : Result Place Refusal) → IsErrAnd r (λ y. y ≡ e) → refused_by e ≡ x → (left : List ℤ) → samples_at r left ≡ x
-samples_stop e r i h left = let d = err_from_is_err_and r i in rw (d.1, d.2) h
+samples_stop e r i h left = rw (exit r e i) h
 
 -- what stops the first part stops the whole
 pub passed_on : {A : Type 0} (p : Ask A) (s : List ℕ) (at : Place) (k : A → Ask (List ℤ)) (e : Refusal) (r : Result Place Refusal) → IsErrAnd r (λ y. y ≡ e)
