@@ -48,7 +48,7 @@ fn predict_by_taps<const N: usize>(coefficients: &[i32], shift: u32, out: &mut [
 }
 
 // For an order of at most 12, as in nearly all streams.
-fn predict_to_12(coefficients: &[i32], shift: u32, out: &mut [i32])
+fn predict_lpc_low_order(coefficients: &[i32], shift: u32, out: &mut [i32])
     requires { Predictable 12 coefficients.now out.old }
     ensures { out.new ≡ predicted_in_place coefficients.now shift out.old }
 {
@@ -70,7 +70,7 @@ fn predict_to_12(coefficients: &[i32], shift: u32, out: &mut [i32])
 }
 
 // For an order above 12.
-fn predict_to_32(coefficients: &[i32], shift: u32, out: &mut [i32])
+fn predict_lpc_high_order(coefficients: &[i32], shift: u32, out: &mut [i32])
     requires { (12 < length coefficients.now) × Predictable 32 coefficients.now out.old }
     ensures { out.new ≡ predicted_in_place coefficients.now shift out.old }
 {
@@ -137,8 +137,8 @@ pub fn predict_lpc(coefficients: &[i32], shift: u32, out: &mut [i32])
         [1] if shift == 0 => predict_fixed(1, out),
         [2, -1] if shift == 0 => predict_fixed(2, out),
         [3, -3, 1] if shift == 0 => predict_fixed(3, out),
-        _ if coefficients.len() <= 12 => predict_to_12(coefficients, shift, out),
-        _ => predict_to_32(coefficients, shift, out),
+        _ if coefficients.len() <= 12 => predict_lpc_low_order(coefficients, shift, out),
+        _ => predict_lpc_high_order(coefficients, shift, out),
     }
 }
 

@@ -6,7 +6,18 @@ ghost use Rattle.std.specs.Prelude.{◌≡◌, drop};
 ghost use Rattle.rfc9639.specs.FrameByFrame.{stream_settings};
 ghost use Rattle.thriftacorn.specs.Exports.{given_of, settings_with, ReadFrameV1, ReadFrameV2, ReadFrameV3, ReadNextV1, ReadNextV2, ReadNextV3, StreamBlockV1};
 
+use frame::Accepted;
 use rfc9639::{Settings, StreamRecord};
+
+// What is reported of a refusal.
+const NOTHING: Accepted = Accepted {
+    consumed: 0,
+    first: None,
+    rate: None,
+    channels: 0,
+    bits: 0,
+    size: 0,
+};
 
 // Reads the frame at a place of the bytes, moves the place past it, and stores what is reported through the references.
 // A refusal leaves the place as it was.
@@ -30,30 +41,19 @@ fn read_at(
 {
     let step = walk::read_next(bytes, *place, set, samples);
     *place = step.place;
-    match step.answer {
-        Ok(f) => {
-            *consumed = f.consumed;
-            *known = u32::from(f.first.is_some());
-            *first = f.first.unwrap_or(0);
-            *rated = u32::from(f.rate.is_some());
-            *rate = f.rate.unwrap_or(0);
-            *channels = f.channels;
-            *bits = f.bits;
-            *size = f.size;
-            0
-        }
-        Err(e) => {
-            *consumed = 0;
-            *known = 0;
-            *first = 0;
-            *rated = 0;
-            *rate = 0;
-            *channels = 0;
-            *bits = 0;
-            *size = 0;
-            u8::from(e)
-        }
-    }
+    let (number, f) = match step.answer {
+        Ok(f) => (0, f),
+        Err(e) => (u8::from(e), NOTHING),
+    };
+    *consumed = f.consumed;
+    *known = u32::from(f.first.is_some());
+    *first = f.first.unwrap_or(0);
+    *rated = u32::from(f.rate.is_some());
+    *rate = f.rate.unwrap_or(0);
+    *channels = f.channels;
+    *bits = f.bits;
+    *size = f.size;
+    number
 }
 
 // What a flag gives: nothing where it is 0, and `value` where it is 1. For another flag it is what no stream has, so
