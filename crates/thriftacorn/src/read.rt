@@ -6,6 +6,7 @@ ghost use Rattle.std.specs.Prelude.{◌≡◌, drop};
 ghost use Rattle.rfc9639.specs.FrameByFrame.{stream_settings};
 ghost use Rattle.thriftacorn.specs.Exports.{given_of, settings_with, ReadFrameV1, ReadFrameV2, ReadFrameV3, ReadNextV1, ReadNextV2, ReadNextV3, StreamBlockV1};
 
+use super::answer::numbered;
 use frame::Accepted;
 use rfc9639::{Settings, StreamRecord};
 
@@ -41,10 +42,7 @@ fn read_at(
 {
     let step = walk::read_next(bytes, *place, set, samples);
     *place = step.place;
-    let (number, f) = match step.answer {
-        Ok(f) => (0, f),
-        Err(e) => (u8::from(e), NOTHING),
-    };
+    let (number, f) = numbered(step.answer, NOTHING);
     *consumed = f.consumed;
     *known = u32::from(f.first.is_some());
     *first = f.first.unwrap_or(0);

@@ -2,6 +2,7 @@
 ghost use Rattle.std.specs.Prelude.{length};
 ghost use Rattle.thriftacorn.specs.Exports.{ChannelV1, SampleV1, PairV1};
 
+use super::answer::numbered;
 use block::Block;
 
 // Where a channel's samples start and where they end.
@@ -16,18 +17,11 @@ pub extern "C" fn thriftacorn_channel_v1(
 ) -> u8
     ensures { ChannelV1 (length samples.now) channels size channel result start.new end.new }
 {
-    match block::channel(samples, Block { channels, size }, channel) {
-        Ok((from, to)) => {
-            *start = from;
-            *end = to;
-            0
-        }
-        Err(e) => {
-            *start = 0;
-            *end = 0;
-            u8::from(e)
-        }
-    }
+    let answer = block::channel(samples, Block { channels, size }, channel);
+    let (number, (from, to)) = numbered(answer, (0, 0));
+    *start = from;
+    *end = to;
+    number
 }
 
 // The sample at an index of a channel.
@@ -42,16 +36,10 @@ pub extern "C" fn thriftacorn_sample_v1(
 ) -> u8
     ensures { SampleV1 samples.now channels size channel index result value.new }
 {
-    match block::sample(samples, Block { channels, size }, channel, index) {
-        Ok(x) => {
-            *value = x;
-            0
-        }
-        Err(e) => {
-            *value = 0;
-            u8::from(e)
-        }
-    }
+    let answer = block::sample(samples, Block { channels, size }, channel, index);
+    let (number, x) = numbered(answer, 0);
+    *value = x;
+    number
 }
 
 // The left and the right sample at an index, in a block of two channels.
@@ -66,16 +54,9 @@ pub extern "C" fn thriftacorn_pair_v1(
 ) -> u8
     ensures { PairV1 samples.now channels size index result left.new right.new }
 {
-    match block::pair(samples, Block { channels, size }, index) {
-        Ok((x, y)) => {
-            *left = x;
-            *right = y;
-            0
-        }
-        Err(e) => {
-            *left = 0;
-            *right = 0;
-            u8::from(e)
-        }
-    }
+    let answer = block::pair(samples, Block { channels, size }, index);
+    let (number, (x, y)) = numbered(answer, (0, 0));
+    *left = x;
+    *right = y;
+    number
 }

@@ -1,6 +1,8 @@
 // Writing, for other languages.
 ghost use Rattle.thriftacorn.specs.Exports.{WriteFrameV1, LongestV1};
 
+use super::answer::numbered;
+
 // Writes one frame.
 #[tactic(auto, unfolding(rfc9639::specs::Write::unwritten))]
 #[unsafe(no_mangle)]
@@ -16,16 +18,10 @@ pub extern "C" fn thriftacorn_write_frame_v1(
 ) -> u8
     ensures { WriteFrameV1 channels bits blocking number size samples.now out.old result length.new out.new }
 {
-    match frame_writer::write_frame(samples, channels, bits, blocking, number, size, out) {
-        Ok(n) => {
-            *length = n;
-            0
-        }
-        Err(e) => {
-            *length = 0;
-            u8::from(e)
-        }
-    }
+    let answer = frame_writer::write_frame(samples, channels, bits, blocking, number, size, out);
+    let (number, n) = numbered(answer, 0);
+    *length = n;
+    number
 }
 
 // The length in bytes that no frame with these settings exceeds, or 0 if the settings are refused. An output of that
