@@ -12,22 +12,25 @@ mod runs;
 mod show;
 mod subframes;
 
-fn main() {
-    crcs::sums();
-    crcs::lengths();
-    inputs::inputs();
-    inputs::words();
-    runs::runs();
-    runs::seeded();
-    numbers::claxon();
-    numbers::number_boundaries();
-    numbers::wraps();
-    numbers::shifts();
-    numbers::lessers();
-    numbers::right_shifts();
-    numbers::differences();
-    blocks::blocks();
-    subframes::subframe_cases();
-    subframes::partition_boundaries();
-    subframes::refusals();
+use std::io;
+
+fn main(rt: HostRuntime) -> io::Result<()> {
+    crcs::sums(&rt)?;
+    crcs::lengths(&rt)?;
+    inputs::inputs(&rt)?;
+    inputs::words(&rt)?;
+    runs::runs(&rt)?;
+    runs::seeded(&rt)?;
+    numbers::claxon(&rt)?;
+    numbers::number_boundaries(&rt)?;
+    numbers::wraps(&rt)?;
+    numbers::shifts(&rt)?;
+    numbers::lessers(&rt)?;
+    numbers::right_shifts(&rt)?;
+    numbers::differences(&rt)?;
+    blocks::blocks(&rt)?;
+    subframes::predictors(&rt)?;
+    subframes::types(&rt)?;
+    subframes::partition_boundaries(&rt)?;
+    subframes::refusals(&rt)
 }

@@ -6,10 +6,15 @@
 ghost use Rattle.std.specs.Prelude.{◌^◌, ◌<◌};
 
 use crate::bit_by_bit;
-use crate::show::{equals, mark, part, show_number, text};
 use error::Read;
 use input::{read_bits, read_unary, word_from};
 use reading::Place;
+use std::{fmt, io};
+
+// The first n bytes, or none where there are fewer.
+fn first_bytes(s: &[u8], n: usize) -> &[u8] {
+    s.get(..n).unwrap_or(&[])
+}
 
 // Whether the three answers are right.
 fn is_right(s: &[u8], bit: usize, zeros: usize) -> bool
@@ -24,8 +29,8 @@ fn is_right(s: &[u8], bit: usize, zeros: usize) -> bool
     };
     let right = Ok((zeros as u64, next));
     read_unary(s, at) == right
-        && read_unary(part(s, 0, bytes + 1), at) == right
-        && read_unary(part(s, 0, bytes), at).is_err()
+        && read_unary(first_bytes(s, bytes + 1), at) == right
+        && read_unary(first_bytes(s, bytes), at).is_err()
 }
 
 fn put(s: &mut [u8], i: usize, b: u8) {
@@ -50,7 +55,7 @@ fn run(s: &mut [u8], bit: usize, zeros: usize) -> bool
 }
 
 // Runs of each length from one to another, from each bit.
-fn lengths(s: &mut [u8], from: usize, to: usize)
+fn lengths(rt: &HostRuntime, s: &mut [u8], from: usize, to: usize) -> io::Result<()>
     requires { (from < 2 ^ 28) × (to < 2 ^ 28) }
 {
     let mut n: u64 = 0;
@@ -59,18 +64,13 @@ fn lengths(s: &mut [u8], from: usize, to: usize)
             n = n.wrapping_add(u64::from(run(s, bit, zeros)));
         }
     }
-    text(b"runs of");
-    show_number(b' ', from as u64);
-    show_number(b'-', to as u64);
-    equals();
-    show_number(b' ', n);
-    mark(b'\n');
+    println!(rt; "runs of {from}-{to} = {n}")
 }
 
-pub fn runs() {
+pub fn runs(rt: &HostRuntime) -> io::Result<()> {
     let mut s = [0u8; 8208];
-    lengths(&mut s, 0, 200);
-    lengths(&mut s, 65535, 65537);
+    lengths(rt, &mut s, 0, 200)?;
+    lengths(rt, &mut s, 65535, 65537)
 }
 
 // Marsaglia's xorshift: from each seed but 0, all numbers of 64 bits but 0 in turn.
@@ -91,16 +91,26 @@ struct SeededCounts {
     narrow: u64,
 }
 
+impl fmt::Display for SeededCounts {
+    fn fmt<W: fmt::Write>(&self, f: &mut fmt::Formatter<W>) -> fmt::Result {
+        let SeededCounts {
+            differ,
+            ended,
+            long,
+            wide,
+            narrow,
+        } = *self;
+        write!(f, "{differ} {ended} {long} {wide} {narrow}")
+    }
+}
+
 fn is_long(r: Read<u64>) -> bool {
     matches!(r, Ok((v, _)) if 64 <= v)
 }
 
 // The 64 bits from a byte on, one by one, or 0 where the input ends before.
 fn word_one_by_one(s: &[u8], byte: usize) -> u64 {
-    match bit_by_bit::bits_one_by_one(s, Place { byte, bit: 0 }, 64) {
-        Ok((v, _)) => v,
-        Err(_) => 0,
-    }
+    bit_by_bit::bits_one_by_one(s, Place { byte, bit: 0 }, 64).map_or(0, |(word, _)| word)
 }
 
 impl SeededCounts {
@@ -134,19 +144,9 @@ fn few_ones(a: u64, x: u64) -> u64 {
     }
 }
 
-fn show_counts(t: SeededCounts) {
-    text(b"seeded =");
-    show_number(b' ', t.differ);
-    show_number(b' ', t.ended);
-    show_number(b' ', t.long);
-    show_number(b' ', t.wide);
-    show_number(b' ', t.narrow);
-    mark(b'\n');
-}
-
-pub fn seeded() {
+pub fn seeded(rt: &HostRuntime) -> io::Result<()> {
     let mut s = [0u8; 40];
-    let mut t = SeededCounts::default();
+    let mut counts = SeededCounts::default();
     let mut x: u64 = 203;
     for _ in 0..1_000_000 {
         let a = draw(x);
@@ -157,11 +157,7 @@ pub fn seeded() {
             byte: ((x >> 16) % 43) as usize,
             bit: ((x >> 24) % 9) as usize,
         };
-        t.count(
-            part(&s, 0, ((x >> 8) % 41) as usize),
-            at,
-            ((x >> 32) % 73) as u32,
-        );
+        counts.count(&s[..((x >> 8) % 41) as usize], at, ((x >> 32) % 73) as u32);
     }
-    show_counts(t);
+    println!(rt; "seeded = {counts}")
 }
