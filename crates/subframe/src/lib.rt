@@ -17,7 +17,7 @@ ghost use Rattle.subframe.specs.Private.{Orderly, Predictable, predicted_block, 
 
 use error::Refusal;
 use header::{order_of, read_quantizer, read_subframe_header};
-use predict::{fixed_coefficients, predict_lpc};
+use predict::{Predictor, fixed_coefficients};
 use reading::Place;
 use residual::{decode_residual, decode_verbatim, read_sample};
 use rfc9639::{SubframeHeader, SubframeType};
@@ -36,17 +36,16 @@ fn decode_constant(s: &[u8], at: Place, width: u32, out: &mut [i32]) -> Result<P
 fn decode_predicted(
     s: &[u8],
     at: Place,
-    coefficients: &[i32],
-    shift: u32,
+    predictor: &Predictor<'_>,
     out: &mut [i32],
 ) -> Result<Place, Refusal>
-    requires { Predictable 32 coefficients.now out.old }
-    ensures { samples_at result out.new ≡ run_at (predicted_block coefficients.now shift out.old) s.now at }
+    requires { Predictable 32 predictor.now.coefficients.now out.old }
+    ensures { samples_at result out.new ≡ run_at (predicted_block predictor.now.coefficients.now predictor.now.shift out.old) s.now at }
 {
-    let order = coefficients.len();
+    let order = predictor.coefficients.len();
     let n = out.len();
     let p = decode_residual(s, at, order, n, &mut out[order..])?;
-    predict_lpc(coefficients, shift, out);
+    predictor.predict(out);
     Ok(p)
 }
 
@@ -63,7 +62,11 @@ fn decode_fixed(
 {
     let p = decode_verbatim(s, at, width, &mut out[..order])?;
     let coefficients = fixed_coefficients(order);
-    decode_predicted(s, p, &coefficients[..order], 0, out)
+    let predictor = Predictor {
+        coefficients: &coefficients[..order],
+        shift: 0,
+    };
+    decode_predicted(s, p, &predictor, out)
 }
 
 // RFC 9639 section 9.2.6, after the shift: the coefficients, and the samples that they predict.
@@ -80,7 +83,11 @@ fn decode_lpc_after_shift(
 {
     let mut coefficients = [0i32; 32];
     let p = decode_verbatim(s, at, precision, &mut coefficients[..order])?;
-    decode_predicted(s, p, &coefficients[..order], shift, out)
+    let predictor = Predictor {
+        coefficients: &coefficients[..order],
+        shift,
+    };
+    decode_predicted(s, p, &predictor, out)
 }
 
 // RFC 9639 section 9.2.6: the warm-up samples, the precision and the shift, and the rest.

@@ -33,71 +33,6 @@ fn dot<const N: usize>(coefficients: &[i32; N], before: &[i32]) -> i64
     sum
 }
 
-// By N coefficients. N is a constant, so the sum of each sample is straight code. The coefficients are copied into an
-// array of their own: nothing that is stored into a block can change them, so they stay in registers.
-fn predict_by_taps<const N: usize>(coefficients: &[i32], shift: u32, out: &mut [i32])
-    requires { (length coefficients.now ≡ N) × Predictable 32 coefficients.now out.old }
-    ensures { out.new ≡ predicted_in_place coefficients.now shift out.old }
-{
-    let mut taps = [0i32; N];
-    taps.copy_from_slice(coefficients);
-    for i in N..out.len() {
-        let sum = dot(&taps, &out[i - N..i]);
-        out[i] = restore(sum, shift, out[i]);
-    }
-}
-
-// For an order of at most 12, as in nearly all streams.
-fn predict_lpc_low_order(coefficients: &[i32], shift: u32, out: &mut [i32])
-    requires { Predictable 12 coefficients.now out.old }
-    ensures { out.new ≡ predicted_in_place coefficients.now shift out.old }
-{
-    match coefficients.len() {
-        0 => predict_by_taps::<0>(coefficients, shift, out),
-        1 => predict_by_taps::<1>(coefficients, shift, out),
-        2 => predict_by_taps::<2>(coefficients, shift, out),
-        3 => predict_by_taps::<3>(coefficients, shift, out),
-        4 => predict_by_taps::<4>(coefficients, shift, out),
-        5 => predict_by_taps::<5>(coefficients, shift, out),
-        6 => predict_by_taps::<6>(coefficients, shift, out),
-        7 => predict_by_taps::<7>(coefficients, shift, out),
-        8 => predict_by_taps::<8>(coefficients, shift, out),
-        9 => predict_by_taps::<9>(coefficients, shift, out),
-        10 => predict_by_taps::<10>(coefficients, shift, out),
-        11 => predict_by_taps::<11>(coefficients, shift, out),
-        _ => predict_by_taps::<12>(coefficients, shift, out),
-    }
-}
-
-// For an order above 12.
-fn predict_lpc_high_order(coefficients: &[i32], shift: u32, out: &mut [i32])
-    requires { (12 < length coefficients.now) × Predictable 32 coefficients.now out.old }
-    ensures { out.new ≡ predicted_in_place coefficients.now shift out.old }
-{
-    match coefficients.len() {
-        13 => predict_by_taps::<13>(coefficients, shift, out),
-        14 => predict_by_taps::<14>(coefficients, shift, out),
-        15 => predict_by_taps::<15>(coefficients, shift, out),
-        16 => predict_by_taps::<16>(coefficients, shift, out),
-        17 => predict_by_taps::<17>(coefficients, shift, out),
-        18 => predict_by_taps::<18>(coefficients, shift, out),
-        19 => predict_by_taps::<19>(coefficients, shift, out),
-        20 => predict_by_taps::<20>(coefficients, shift, out),
-        21 => predict_by_taps::<21>(coefficients, shift, out),
-        22 => predict_by_taps::<22>(coefficients, shift, out),
-        23 => predict_by_taps::<23>(coefficients, shift, out),
-        24 => predict_by_taps::<24>(coefficients, shift, out),
-        25 => predict_by_taps::<25>(coefficients, shift, out),
-        26 => predict_by_taps::<26>(coefficients, shift, out),
-        27 => predict_by_taps::<27>(coefficients, shift, out),
-        28 => predict_by_taps::<28>(coefficients, shift, out),
-        29 => predict_by_taps::<29>(coefficients, shift, out),
-        30 => predict_by_taps::<30>(coefficients, shift, out),
-        31 => predict_by_taps::<31>(coefficients, shift, out),
-        _ => predict_by_taps::<32>(coefficients, shift, out),
-    }
-}
-
 // The sum of the products of a fixed predictor of order 1 to 3 (RFC 9639 section 9.2.5), by sums and differences.
 fn fixed_sum(order: usize, before: &[i32]) -> i64
     requires { (1 ≤ order) × (order ≤ 3) × (order ≤ length before.now) }
@@ -127,18 +62,102 @@ fn predict_fixed(order: usize, out: &mut [i32])
     }
 }
 
-// claxon has two predictors, chosen by the order. Fixed predictors of order 1 to 3 have a third here, which needs no
-// products. All meet one definition.
-pub fn predict_lpc(coefficients: &[i32], shift: u32, out: &mut [i32])
-    requires { Predictable 32 coefficients.now out.old }
-    ensures { out.new ≡ predicted_in_place coefficients.now shift out.old }
-{
-    match coefficients {
-        [1] if shift == 0 => predict_fixed(1, out),
-        [2, -1] if shift == 0 => predict_fixed(2, out),
-        [3, -3, 1] if shift == 0 => predict_fixed(3, out),
-        _ if coefficients.len() <= 12 => predict_lpc_low_order(coefficients, shift, out),
-        _ => predict_lpc_high_order(coefficients, shift, out),
+// A linear predictor (RFC 9639 section 9.2.6): the coefficients, that of the latest sample first, and the shift by which
+// the sum of the products is moved down.
+#[derive(Clone, Copy)]
+pub struct Predictor<'a> {
+    pub coefficients: &'a [i32],
+    pub shift: u32,
+}
+
+impl Predictor<'_> {
+    // By N coefficients. N is a constant, so the sum of each sample is straight code. The coefficients are copied into an
+    // array of their own, and the shift is copied: nothing that is stored into a block can change them, so they stay in
+    // registers.
+    fn predict_by_taps<const N: usize>(&self, out: &mut [i32])
+        requires { (length self.now.coefficients.now ≡ N) × Predictable 32 self.now.coefficients.now out.old }
+        ensures { out.new ≡ predicted_in_place self.now.coefficients.now self.now.shift out.old }
+    {
+        let Predictor {
+            coefficients,
+            shift,
+        } = *self;
+        let mut taps = [0i32; N];
+        taps.copy_from_slice(coefficients);
+        for i in N..out.len() {
+            let sum = dot(&taps, &out[i - N..i]);
+            out[i] = restore(sum, shift, out[i]);
+        }
+    }
+
+    // For an order of at most 12, as in nearly all streams.
+    fn predict_lpc_low_order(&self, out: &mut [i32])
+        requires { Predictable 12 self.now.coefficients.now out.old }
+        ensures { out.new ≡ predicted_in_place self.now.coefficients.now self.now.shift out.old }
+    {
+        match self.coefficients.len() {
+            0 => self.predict_by_taps::<0>(out),
+            1 => self.predict_by_taps::<1>(out),
+            2 => self.predict_by_taps::<2>(out),
+            3 => self.predict_by_taps::<3>(out),
+            4 => self.predict_by_taps::<4>(out),
+            5 => self.predict_by_taps::<5>(out),
+            6 => self.predict_by_taps::<6>(out),
+            7 => self.predict_by_taps::<7>(out),
+            8 => self.predict_by_taps::<8>(out),
+            9 => self.predict_by_taps::<9>(out),
+            10 => self.predict_by_taps::<10>(out),
+            11 => self.predict_by_taps::<11>(out),
+            _ => self.predict_by_taps::<12>(out),
+        }
+    }
+
+    // For an order above 12.
+    fn predict_lpc_high_order(&self, out: &mut [i32])
+        requires { (12 < length self.now.coefficients.now) × Predictable 32 self.now.coefficients.now out.old }
+        ensures { out.new ≡ predicted_in_place self.now.coefficients.now self.now.shift out.old }
+    {
+        match self.coefficients.len() {
+            13 => self.predict_by_taps::<13>(out),
+            14 => self.predict_by_taps::<14>(out),
+            15 => self.predict_by_taps::<15>(out),
+            16 => self.predict_by_taps::<16>(out),
+            17 => self.predict_by_taps::<17>(out),
+            18 => self.predict_by_taps::<18>(out),
+            19 => self.predict_by_taps::<19>(out),
+            20 => self.predict_by_taps::<20>(out),
+            21 => self.predict_by_taps::<21>(out),
+            22 => self.predict_by_taps::<22>(out),
+            23 => self.predict_by_taps::<23>(out),
+            24 => self.predict_by_taps::<24>(out),
+            25 => self.predict_by_taps::<25>(out),
+            26 => self.predict_by_taps::<26>(out),
+            27 => self.predict_by_taps::<27>(out),
+            28 => self.predict_by_taps::<28>(out),
+            29 => self.predict_by_taps::<29>(out),
+            30 => self.predict_by_taps::<30>(out),
+            31 => self.predict_by_taps::<31>(out),
+            _ => self.predict_by_taps::<32>(out),
+        }
+    }
+
+    // claxon has two predictors, chosen by the order. Fixed predictors of order 1 to 3 have a third here, which needs no
+    // products. All meet one definition.
+    pub fn predict(&self, out: &mut [i32])
+        requires { Predictable 32 self.now.coefficients.now out.old }
+        ensures { out.new ≡ predicted_in_place self.now.coefficients.now self.now.shift out.old }
+    {
+        let Predictor {
+            coefficients,
+            shift,
+        } = *self;
+        match coefficients {
+            [1] if shift == 0 => predict_fixed(1, out),
+            [2, -1] if shift == 0 => predict_fixed(2, out),
+            [3, -3, 1] if shift == 0 => predict_fixed(3, out),
+            _ if coefficients.len() <= 12 => self.predict_lpc_low_order(out),
+            _ => self.predict_lpc_high_order(out),
+        }
     }
 }
 

@@ -11,12 +11,12 @@ use Rattle.subframe.proofs.decode_predicted.Goals as goal
 -- the residual may be refused, and then the block keeps what was left in it
 pub returns-in_err-p : goal.returns-in_err-p
 returns-in_err-p c =
-    let a = c.args in let cs = a.coefficients.now in
-    passed_on (residual (length cs) (length a.out.now)) a.s.now a.at (λ r. done (predict cs a.shift (take (length cs) a.out.now) r)) _ _
+    let a = c.args in let cs = a.predictor.now.coefficients.now in
+    passed_on (residual (length cs) (length a.out.now)) a.s.now a.at (λ r. done (predict cs a.predictor.now.shift (take (length cs) a.out.now) r)) _ _
     c.from_residual.ensures.1 c.in_err-p.ensures _
 
 pub returns : goal.returns
 returns c =
-    let a = c.args in let cs = a.coefficients.now in
-    then_done (residual (length cs) (length a.out.now)) (λ r. predict cs a.shift (take (length cs) a.out.now) r) a.s.now a.at c.in_ok-p.ensures
-    (c.predict_lpc.ensures ∙ predicted-put cs a.shift a.out.now c.decode_residual.new.out c.requires.1)
+    let a = c.args in let cs = a.predictor.now.coefficients.now in
+    then_done (residual (length cs) (length a.out.now)) (λ r. predict cs a.predictor.now.shift (take (length cs) a.out.now) r) a.s.now a.at c.in_ok-p.ensures
+    (c.predict.ensures ∙ predicted-put cs a.predictor.now.shift a.out.now c.decode_residual.new.out c.requires.1)

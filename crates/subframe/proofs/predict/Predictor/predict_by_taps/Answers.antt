@@ -1,9 +1,9 @@
--- `predict_by_taps`: each turn restores one sample (Restored). Assumes nothing.
+-- `Predictor::predict_by_taps`: each turn restores one sample (Restored). Assumes nothing.
 use native.Mathlib.Omega.{arith}
 use mathlib.Core.Path.{◌∙◌}
 use borrow.Author.Rules.{rules}
 use Rattle.subframe.proofs.PredictionInPlace.{turn, end, resumed-predict}
-use Rattle.subframe.proofs.predict.predict_by_taps.Goals as goal
+use Rattle.subframe.proofs.predict.Predictor.predict_by_taps.Goals as goal
 
 pub loop-i-preserved : goal.loop-i-preserved
 loop-i-preserved g c =
