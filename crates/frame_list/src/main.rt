@@ -313,7 +313,8 @@ fn write_header_over(rt: &HostRuntime, last: Last)
     }
 }
 
-// The stream header, if there is one, the frames and the lines after them.
+// The stream header, if there is one, the frames and the lines after them. Here and below, the source, the window and the
+// samples go side by side: in a struct of lent slices each clause would name them by a path.
 fn list_card(rt: &HostRuntime, source: &Source, window: &mut [u8], samples: &mut [i32])
     requires { length window.old < 2 ^ 64 }
 {

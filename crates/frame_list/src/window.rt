@@ -1,4 +1,5 @@
-// The window on the card: bytes that are still needed move to its front, and more of the card is read in after them.
+// The window on the card: bytes that are still needed move to its front, and more of the card is read in after them. It
+// is fixed memory, lent with how many of its bytes are held: the program has no heap.
 ghost use Rattle.std.specs.Prelude.{◌+◌, ◌-◌, ◌≤◌, ◌<◌, ◌≡◌, IfOk, length, take, drop};
 ghost use Rattle.std.specs.Io.{ReadsAtMost};
 ghost use Rattle.frame_list.specs.Window.{Fills};

@@ -71,6 +71,7 @@ fn number_at(input: &[u8; 65568], at: usize) -> u32
     number_from_bytes(input[at], input[at + 1], input[at + 2], input[at + 3]) as u32
 }
 
+// The input is fixed memory, with how many of its bytes were read: the program has no heap.
 fn run(input: &[u8; 65568], n: usize, samples: &mut [i32; 65536])
     requires { n ≤ 65568 }
 {

@@ -27,6 +27,7 @@ fn decode(bytes: &[u8], samples: &mut [i32])
     }
 }
 
+// The input is fixed memory, with how many of its bytes were read: the program has no heap.
 fn run(input: &[u8; 65556], n: usize, samples: &mut [i32; 16384], out: &mut [u8; 32768])
     requires { n ≤ 65556 }
 {
