@@ -11,11 +11,11 @@ ghost use Rattle.rfc9639.specs.Stream.{first_known, first_number};
 // or 0, the channels, the bits and the block size.
 pub fn answer_bytes(
     number: u8,
-    consumed: usize,
+    consumed: u64,
     first: Option<u64>,
-    channels: usize,
-    bits: u32,
-    size: usize,
+    channels: u64,
+    bits: u64,
+    size: u64,
 ) -> [u8; 18]
     ensures { result ≡ number ∷ (little 4 consumed ++ (little 1 (first_known first) ++ (little 8 (first_number first) ++ (little 1 channels ++ (little 1 bits ++ little 2 size))))) }
 {

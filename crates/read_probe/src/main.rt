@@ -28,7 +28,14 @@ const STDOUT: i32 = 1;
 
 fn write_answer(answer: Result<Accepted, Refusal>) {
     let bytes = match answer {
-        Ok(f) => answer_bytes(0, f.consumed, f.first, f.channels, f.bits, f.size),
+        Ok(f) => answer_bytes(
+            0,
+            f.consumed as u64,
+            f.first,
+            f.channels as u64,
+            f.bits as u64,
+            f.size as u64,
+        ),
         Err(e) => answer_bytes(e.into(), 0, None, 0, 0, 0),
     };
     io::write_all(STDOUT, &bytes);

@@ -18,7 +18,14 @@ const STDOUT: i32 = 1;
 // The record is that of the probe programs without the byte that says whether the first sample's number is known. Here
 // it always is: the first frame has a header, so its size is the stream's.
 fn write_report(f: Accepted) {
-    let bytes = answer_bytes(1, f.consumed, f.first, f.channels, f.bits, f.size);
+    let bytes = answer_bytes(
+        1,
+        f.consumed as u64,
+        f.first,
+        f.channels as u64,
+        f.bits as u64,
+        f.size as u64,
+    );
     io::write_all(STDOUT, &bytes[..5]);
     io::write_all(STDOUT, &bytes[6..]);
 }
