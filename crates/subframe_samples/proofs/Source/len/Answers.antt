@@ -1,4 +1,4 @@
--- `stored_len` meets its contract, lane by lane. Assumes nothing.
+-- `len` meets its contract, lane by lane. Assumes nothing.
 use native.Mathlib.Omega.{arith}
 use mathlib.Core.Path.{sym, ◌∙◌}
 use Rattle.subframe_samples.proofs.StoredSamples.{length-channel, length_both, stored-channel, stored-mid, stored-side}
