@@ -3,7 +3,7 @@
 // answers on every argument, and promises the `inked` (specs/PenWrites.antt) of the bits that it is to write.
 #![tactic(auto)]
 
-ghost use Rattle.std.specs.Prelude.{◌≡◌, ◌+◌, ◌^◌, ◌≤◌, ◌<◌, length, take};
+ghost use Rattle.std.specs.Prelude.{◌≡◌, ◌+◌, ◌^◌, ◌≤◌, ◌<◌, length};
 ghost use Rattle.reading.specs.NumbersAsBits.{bits_of, unary};
 ghost use Rattle.bit_writer.specs.PenWrites.{State, ink, is_pen, fresh, SameOutput, Appends};
 
@@ -47,13 +47,6 @@ impl<'a> BitWriter<'a> {
 }
 
 impl BitWriter<'_> {
-    // The bytes before the pen: all that is written.
-    pub fn written(&self) -> &[u8]
-        ensures { result.now ≡ take self.now.pen.byte self.now.out.now }
-    {
-        &self.out[..self.pen.byte.min(self.out.len())]
-    }
-
     // The low n bits of v. Each turn of the loop fills the current byte as far as it can.
     pub fn write_bits(&mut self, n: u32, v: u64)
         ensures { Appends (bits_of n v) self.old self.new }

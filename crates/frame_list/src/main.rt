@@ -308,7 +308,7 @@ fn write_header_over(rt: &HostRuntime, last: Last)
     requires { (last.card.base + last.card.held < 2 ^ 64) × (last.place ≤ last.card.held) }
 {
     match last.how {
-        How::Ended(e) | How::Refused(e) => report::header_refused(rt, last.card.totals, e),
+        How::Ended(e) | How::Refused(e) => report::header_refused(rt, e),
         How::Unread(_) | How::TooLong | How::TooFar => write_last_line(rt, last),
     }
 }
@@ -371,8 +371,10 @@ fn card_named(rt: &HostRuntime) -> Result<Source, NoCard> {
 }
 
 fn main(rt: HostRuntime) {
+    let mut window = [0u8; WINDOW];
+    let mut samples = [0i32; ROOM];
     match card_named(&rt) {
-        Ok(source) => list_into(&rt, &source, &mut [0; WINDOW], &mut [0; ROOM]),
+        Ok(source) => list_into(&rt, &source, &mut window, &mut samples),
         Err(why) => report::no_card(&rt, why),
     }
 }

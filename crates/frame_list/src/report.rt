@@ -230,8 +230,9 @@ pub fn last_line(rt: &HostRuntime, totals: Totals, at: u64, how: How) {
     write_line(rt, Ending { how, totals, at });
 }
 
-// The stream header is refused, or the card ends within it.
-pub fn header_refused(rt: &HostRuntime, totals: Totals, e: Refusal) {
+// The stream header is refused, or the card ends within it. No frame was read.
+pub fn header_refused(rt: &HostRuntime, e: Refusal) {
+    let totals = Totals::default();
     write_line(
         rt,
         format_args!(

@@ -62,11 +62,11 @@ module _ (set : FrameSetting) where
     nothing_written h = (lent_output, ap₂ (λ (p : Pen) (s : List ℕ). record { pen = p; bytes = s }) clean (ap (λ o. o.now) at) ∙ sym (header_written-no_room lent.now h))
 
     -- where there is
-    pub sum_completes_header : length (header_bits set) ≤ 8 * length lent.now → {fields after : BitWriter} {x : ℕ} {bs : List ℕ} → Appends (field_bits set) w fields
-        → bs ≡ take fields.pen.byte fields.out.now → x ≡ crc8 (bits_of_bytes bs) → Appends (bits_of 8 x) fields after
+    pub sum_completes_header : length (header_bits set) ≤ 8 * length lent.now → {fields after : BitWriter} {x : ℕ} → Appends (field_bits set) w fields
+        → x ≡ crc8 (bits_of_bytes (take fields.pen.byte fields.out.now)) → Appends (bits_of 8 x) fields after
         → SameOutput lent after.out × ◌≡◌ {A = State} (record { pen = after.pen; bytes = after.out.now }) (header_written set lent.now)
-    sum_completes_header room {fields} {after} e b h f = (
+    sum_completes_header room {fields} {after} e h f = (
       same_then (same_then lent_output e.same) f.same,
       sum_completes lent.now room
-          (e.written ∙ ap₂ (λ (p : Pen) (s : List ℕ). inked (field_bits set) p s) clean (ap (λ o. o.now) at)) (h ∙ ap (λ z. crc8 (bits_of_bytes z)) b) f.written,
+          (e.written ∙ ap₂ (λ (p : Pen) (s : List ℕ). inked (field_bits set) p s) clean (ap (λ o. o.now) at)) h f.written,
     )

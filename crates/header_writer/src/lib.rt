@@ -4,8 +4,10 @@
 
 mod coded;
 
-ghost use Rattle.std.specs.Prelude.{◌≡◌, ◌-◌, ◌/◌, length};
+ghost use Rattle.std.specs.Prelude.{◌≡◌, ◌-◌, ◌/◌, length, take};
+ghost use Rattle.reading.specs.Bytes.{bits_of_bytes};
 ghost use Rattle.reading.specs.NumbersAsBits.{bits_of};
+ghost use Rattle.rfc9639.specs.CheckSums.{crc8};
 ghost use Rattle.rfc9639.specs.HeaderCodes.{size_bits};
 ghost use Rattle.rfc9639.specs.Write.{code_bits, field_bits, header_bits};
 ghost use Rattle.bit_writer.specs.PenWrites.{State, SameOutput, Appends};
@@ -32,11 +34,18 @@ pub fn write_header<'a>(set: FrameSetting, out: &'a mut [u8]) -> BitWriter<'a>
     let mut writer = BitWriter::new(out);
     if header_length(set) <= room {
         write_fields(set, &mut writer);
-        let fields = writer.written();
-        let sum = crc::crc8(fields);
+        let sum = sum_before_pen(&writer);
         writer.write_bits(8, sum as u64);
     }
     writer
+}
+
+// The CRC-8 of the bytes before the pen.
+fn sum_before_pen(writer: &BitWriter) -> u8
+    ensures { result ≡ crc8 (bits_of_bytes (take writer.now.pen.byte writer.now.out.now)) }
+{
+    let bytes = &*writer.out;
+    crc::crc8(&bytes[..writer.pen.byte.min(bytes.len())])
 }
 
 // The header before its check sum.

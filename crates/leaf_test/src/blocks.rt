@@ -2,7 +2,7 @@
 // a channel and an index, then the three answers: the channel's range and its samples, the sample, and the pair.
 use crate::show::{Answer, Samples};
 use block::{Block, channel, pair, sample};
-use std::{fmt, io};
+use std::fmt;
 
 // The left and the right sample.
 #[derive(Drop)]
@@ -16,32 +16,25 @@ impl fmt::Display for Pair {
 }
 
 // The slice needs no check: by its contract, `channel` answers a range that lies in the samples.
-fn channel_at(rt: &HostRuntime, s: &[i32], b: Block, c: usize) -> io::Result<()> {
-    match channel(s, b, c) {
+fn channel_at(rt: &HostRuntime, s: &[i32], b: Block, c: usize) {
+    let _ = match channel(s, b, c) {
         Ok((start, end)) => print!(rt; "{start}..{end},{}", Samples(&s[start..end])),
         Err(e) => print!(rt; "refused {},", u8::from(e)),
-    }
+    };
 }
 
-fn line(
-    rt: &HostRuntime,
-    s: &[i32],
-    channels: usize,
-    size: usize,
-    c: usize,
-    i: usize,
-) -> io::Result<()> {
+fn line(rt: &HostRuntime, s: &[i32], channels: usize, size: usize, c: usize, i: usize) {
     let b = Block { channels, size };
-    print!(rt; "block {channels}x{size} {c} {i} = ")?;
-    channel_at(rt, s, b, c)?;
-    println!(rt;
+    let _ = print!(rt; "block {channels}x{size} {c} {i} = ");
+    channel_at(rt, s, b, c);
+    let _ = println!(rt;
         ", {}, {}",
         Answer(sample(s, b, c, i)),
         Answer(pair(s, b, i).map(Pair))
-    )
+    );
 }
 
-pub fn blocks(rt: &HostRuntime) -> io::Result<()> {
+pub fn blocks(rt: &HostRuntime) {
     // claxon's samples, in both of its tests of a block
     let s: &[i32] = &[2, 3, 5, 7, 11, 13, 17, 19, 23, 29, 31, 37, 41, 43, 47];
     for (channels, size, c, i) in [
@@ -68,7 +61,6 @@ pub fn blocks(rt: &HostRuntime) -> io::Result<()> {
         (2, 8, 0, 0),
         (2, 0x8000_0000_0000_0000, 0, 0),
     ] {
-        line(rt, s, channels, size, c, i)?;
+        line(rt, s, channels, size, c, i);
     }
-    Ok(())
 }

@@ -9,7 +9,7 @@ use crate::bit_by_bit;
 use error::Read;
 use input::{read_bits, read_unary, word_from};
 use reading::Place;
-use std::{fmt, io};
+use std::fmt;
 
 // The first n bytes, or none where there are fewer.
 fn first_bytes(s: &[u8], n: usize) -> &[u8] {
@@ -55,7 +55,7 @@ fn run(s: &mut [u8], bit: usize, zeros: usize) -> bool
 }
 
 // Runs of each length from one to another, from each bit.
-fn lengths(rt: &HostRuntime, s: &mut [u8], from: usize, to: usize) -> io::Result<()>
+fn lengths(rt: &HostRuntime, s: &mut [u8], from: usize, to: usize)
     requires { (from < 2 ^ 28) × (to < 2 ^ 28) }
 {
     let mut n: u64 = 0;
@@ -64,13 +64,13 @@ fn lengths(rt: &HostRuntime, s: &mut [u8], from: usize, to: usize) -> io::Result
             n = n.wrapping_add(u64::from(run(s, bit, zeros)));
         }
     }
-    println!(rt; "runs of {from}-{to} = {n}")
+    let _ = println!(rt; "runs of {from}-{to} = {n}");
 }
 
-pub fn runs(rt: &HostRuntime) -> io::Result<()> {
+pub fn runs(rt: &HostRuntime) {
     let mut s = [0u8; 8208];
-    lengths(rt, &mut s, 0, 200)?;
-    lengths(rt, &mut s, 65535, 65537)
+    lengths(rt, &mut s, 0, 200);
+    lengths(rt, &mut s, 65535, 65537);
 }
 
 // Marsaglia's xorshift: from each seed but 0, all numbers of 64 bits but 0 in turn.
@@ -144,7 +144,7 @@ fn few_ones(a: u64, x: u64) -> u64 {
     }
 }
 
-pub fn seeded(rt: &HostRuntime) -> io::Result<()> {
+pub fn seeded(rt: &HostRuntime) {
     let mut s = [0u8; 40];
     let mut counts = SeededCounts::default();
     let mut x: u64 = 203;
@@ -159,5 +159,5 @@ pub fn seeded(rt: &HostRuntime) -> io::Result<()> {
         };
         counts.count(&s[..((x >> 8) % 41) as usize], at, ((x >> 32) % 73) as u32);
     }
-    println!(rt; "seeded = {counts}")
+    let _ = println!(rt; "seeded = {counts}");
 }

@@ -27,7 +27,7 @@ fn decode_constant(s: &[u8], at: Place, width: u32, out: &mut [i32]) -> Result<P
     ensures { samples_at result out.new ≡ run_at (samples_by_type SubframeType.Constant width (length out.old)) s.now at }
 {
     let (x, p) = read_sample(s, at, width)?;
-    out.fill(x);
+    block::fill(out, x);
     Ok(p)
 }
 
@@ -177,7 +177,7 @@ pub fn decode(s: &[u8], at: Place, width: u32, out: &mut [i32]) -> Result<Place,
 {
     let decoded = decode_subframe(s, at, width, out);
     if decoded.is_err() {
-        out.fill(0);
+        block::fill(out, 0);
     }
     decoded
 }

@@ -15,8 +15,8 @@ const STDIN: i32 = 0;
 const STDOUT: i32 = 1;
 
 fn write_head(number: u8, length: u64) {
-    io::write_all(STDOUT, &[number]);
-    io::write_all(STDOUT, &four_bytes(length));
+    let [a, b, c, d] = four_bytes(length);
+    io::write_all(STDOUT, &[number, a, b, c, d]);
 }
 
 fn decode(bytes: &[u8], samples: &mut [i32])

@@ -1,5 +1,5 @@
 -- The channels, then the footer: zeros if one is refused, else the channels as they were recorded. Assumes nothing.
-use mathlib.Core.Path.{◌≡◌, ap, sym, ◌∙◌}
+use mathlib.Core.Path.{ap, sym, ◌∙◌}
 use borrow.Author.Rules.{rules}
 use lib.IntN.{pos}
 use lib.ListN.{length, replicate}
@@ -20,6 +20,5 @@ returns-then-is_ok c =
 pub returns-else-is_ok : goal.returns-else-is_ok
 returns-else-is_ok c =
     let f : Then c.args.s.now c.decode_channels.result c.and_then-decoded.result = search rules in
-    let z : c.fill.new.self ≡ replicate (length c.decode_channels.new.out) (pos 0) = search rules in
     body-stops c.args.h c.args.s.now c.args.at (length c.args.out.now) c.decode_channels.new.out c.decode_channels.result c.and_then-decoded.result c.decode_channels.ensures f
-    (sym c.is_ok.ensures.value ∙ c.if-is_ok.false) (z ∙ ap (λ n. replicate n (pos 0)) c.decode_channels.auto.out)
+    (sym c.is_ok.ensures.value ∙ c.if-is_ok.false) (c.fill.ensures ∙ ap (λ n. replicate n (pos 0)) c.decode_channels.auto.out)

@@ -7,7 +7,7 @@ use Rattle.header_writer.proofs.write_header.Goals as goal
 pub returns-then-header_length-room : goal.returns-then-header_length-room
 returns-then-header_length-room c =
     sum_completes_header _ c.new-writer.ensures.0 c.new-writer.ensures.1 (room_for _ c.header_length.ensures c.if-header_length-room.true)
-    c.write_fields.ensures c.written-fields.ensures c.crc8-sum.ensures c.write_bits.ensures
+    c.write_fields.ensures c.sum_before_pen-sum.ensures c.write_bits.ensures
 
 pub returns-else-header_length-room : goal.returns-else-header_length-room
 returns-else-header_length-room c =

@@ -15,4 +15,4 @@ pub returns : goal.returns
 returns c =
     let f : SFits w32 c.in_ok-x.x = search rules in
     constant-done c.args.width (length c.args.out.now) c.args.s.now c.args.at c.in_ok-x.ensures
-    (c.fill.ensures.after (λ y h. h) ∙ ap (replicate (length c.args.out.now)) (to_z-of_z f))
+    (c.fill.ensures ∙ ap (replicate (length c.args.out.now)) (to_z-of_z f))
