@@ -1,3 +1,4 @@
--- A channel's range, and that each function has one outcome.
+-- A channel's range, what is filled so far, and that each function has one outcome.
 pub mod BlockAccess
+pub mod FilledSamples
 pub mod Outcome
