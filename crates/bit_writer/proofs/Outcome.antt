@@ -1,5 +1,6 @@
 -- Any two outcomes that meet a public function's contract are equal. Assumes nothing.
 use Prim.Native.Nat.{ℕ}
+use denote.Bor.{Bor}
 use denote.MutBor.{MutBor}
 use mathlib.Core.Path.{◌≡◌, refl, ap, ap₂, ◌∙◌}
 use mathlib.Core.List.{List}
@@ -13,6 +14,8 @@ use Rattle.bit_writer.specs.contracts.BitWriter.write_bits as write_bits
 use Rattle.bit_writer.proofs.BitWriter.write_bits.Reads as write_bits_reads
 use Rattle.bit_writer.specs.contracts.BitWriter.write_unary as write_unary
 use Rattle.bit_writer.proofs.BitWriter.write_unary.Reads as write_unary_reads
+use Rattle.bit_writer.specs.contracts.BitWriter.written as written
+use Rattle.bit_writer.proofs.BitWriter.written.Reads as written_reads
 
 -- a writer by its parts
 abbrev writer : MutBor (List ℕ) → Pen → BitWriter
@@ -40,3 +43,10 @@ write_bits-one κs args r r' left left' p q = (refl, ap (λ w. (w, (tt, (tt, tt)
 
 pub write_unary-one : OneOutcome write_unary.ended write_unary_reads.Learnt
 write_unary-one κs args r r' left left' p q = (refl, ap (λ w. (w, (tt, tt))) (writer_one p q))
+
+-- lent bytes by where they lie and what they are
+abbrev lent_bytes : ℕ × ℕ → List ℕ → Bor (List ℕ)
+lent_bytes i s = record { ref_ptr = i; now = s }
+
+pub written-one : OneOutcome written.ended written_reads.Learnt
+written-one κs args r r' left left' p q = (ap₂ lent_bytes (one_value p.1 q.1) (one_value p.0 q.0), refl)

@@ -3,7 +3,10 @@
 // answers on every argument, and promises the `inked` (specs/PenWrites.antt) of the bits that it is to write.
 #![tactic(auto)]
 
-ghost use Rattle.std.specs.Prelude.{◌≡◌, ◌+◌, ◌^◌, ◌≤◌, ◌<◌, length};
+#[cfg(test)]
+mod tests;
+
+ghost use Rattle.std.specs.Prelude.{◌≡◌, ◌+◌, ◌^◌, ◌≤◌, ◌<◌, length, take};
 ghost use Rattle.reading.specs.NumbersAsBits.{bits_of, unary};
 ghost use Rattle.bit_writer.specs.PenWrites.{State, ink, is_pen, fresh, SameOutput, Appends};
 
@@ -47,6 +50,14 @@ impl<'a> BitWriter<'a> {
 }
 
 impl BitWriter<'_> {
+    // All that is written: the bytes before the pen, lent where they lie.
+    pub fn written(&self) -> &[u8]
+        ensures bytes { result.now ≡ take self.now.pen.byte self.now.out.now }
+        ensures place { result.ref_ptr ≡ self.now.out.ref_ptr }
+    {
+        &self.out[..self.pen.byte.min(self.out.len())]
+    }
+
     // The low n bits of v. Each turn of the loop fills the current byte as far as it can.
     pub fn write_bits(&mut self, n: u32, v: u64)
         ensures { Appends (bits_of n v) self.old self.new }
