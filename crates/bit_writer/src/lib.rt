@@ -1,6 +1,7 @@
 // Writes bits into a lent output, most significant first: the counterpart of `input`. A writer holds the output, and a
 // pen: the byte that it stands at, and the bits of that byte that it holds and has not written yet. Each function
-// answers on every argument, and promises the `inked` (specs/PenWrites.antt) of the bits that it is to write.
+// answers on every argument. Those that write promise the `inked` (specs/PenWrites.antt) of the bits that they are to
+// write; `written` lends the whole bytes.
 #![tactic(auto)]
 
 #[cfg(test)]
